@@ -1,0 +1,4 @@
+pub mod Programs
+pub mod Exercises
+pub mod StoredExercises
+pub mod Grammar

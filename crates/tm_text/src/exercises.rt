@@ -1,0 +1,108 @@
+ghost use Rattle.std.specs.Prelude.{◌≡◌, ◌≤◌, ◌<◌, IfSome, length, slice_get, Some};
+ghost use Rattle.tm_text.specs.Exercises.{ExerciseView, IsWellFormed, own_of, program_of};
+ghost use Rattle.tm_text.specs.Programs.{asked_of};
+ghost use Rattle.std.specs.Prelude.{drop};
+
+use std::marker::Model;
+use tm_base::{Ask, Kind, Name, Op};
+
+/// An object as the text declares it. A thread's object has the thread's name.
+#[derive(Clone, Copy, Debug, PartialEq, Eq)]
+pub struct Declared {
+    pub name: Name,
+    pub kind: Kind,
+}
+
+/// A statement of a program.
+#[derive(Clone, Copy, Debug, PartialEq, Eq)]
+pub enum Statement {
+    /// Asks for an operation on an object.
+    Call { object: u32, op: Op },
+}
+
+/// An exercise: objects with names and kinds, in order of declaration, and one program per thread.
+/// Objects count from 0 and threads from 1; each thread has an object of its own.
+#[derive(Debug, Drop)]
+pub struct Exercise {
+    objects: Vec<Declared>,
+    programs: Vec<Vec<Statement>>,
+    owns: Vec<u32>,
+}
+
+impl Model for Exercise {
+    ghost use Rattle.tm_text.specs.Exercises.{ExerciseView};
+
+    ghost Value = { ExerciseView };
+
+    ghost use Rattle.tm_text.specs.StoredExercises.{exercise_view, IsKept};
+
+    ghost view = { exercise_view };
+
+    ghost invariant = { IsKept };
+}
+
+impl Exercise {
+    /// How many threads its programs are for, `main` not counted: 0 to 64.
+    pub fn threads(&self) -> u32
+        ensures value { result ≡ length self.now.programs }
+        ensures well_formed { IsWellFormed self.now }
+    {
+        self.programs.len() as u32
+    }
+
+    /// How many objects it has, threads' own objects counted: 0 to 256.
+    pub fn objects(&self) -> u32
+        ensures value { result ≡ length self.now.objects }
+        ensures well_formed { IsWellFormed self.now }
+    {
+        self.objects.len() as u32
+    }
+
+    /// The object's name.
+    pub fn name(&self, object: u32) -> Name
+        requires { object < length self.now.objects }
+        ensures { IfSome (slice_get self.now.objects object) (λ declared. result ≡ declared.name) }
+    {
+        self.objects[object as usize].name
+    }
+
+    /// The object's kind.
+    pub fn kind(&self, object: u32) -> Kind
+        requires { object < length self.now.objects }
+        ensures { IfSome (slice_get self.now.objects object) (λ declared. result ≡ declared.kind) }
+    {
+        self.objects[object as usize].kind
+    }
+
+    /// The number of the thread's own object. The thread is 1 to `threads`.
+    pub fn own(&self, thread: u32) -> u32
+        requires program { 1 ≤ thread }
+        requires known { thread ≤ length self.now.programs }
+        ensures { result ≡ own_of self.now.objects thread }
+    {
+        self.owns[thread as usize - 1]
+    }
+
+    /// What the thread's program asks once this many of its calls have their final replies. The
+    /// thread is 1 to `threads`.
+    pub fn asked(&self, thread: u32, done: usize) -> Ask
+        requires program { 1 ≤ thread }
+        requires known { thread ≤ length self.now.programs }
+        ensures { result ≡ asked_of (drop done (program_of self.now thread)) }
+    {
+        let program = &self.programs[thread as usize - 1];
+        next_ask(program.as_slice(), done)
+    }
+}
+
+/// What the statements from this one on ask next.
+fn next_ask(program: &[Statement], done: usize) -> Ask
+    ensures { result ≡ asked_of (drop done program.now) }
+{
+    if done >= program.len() {
+        return Ask::Over;
+    }
+    match program[done] {
+        Statement::Call { object, op } => Ask::Call { object, op },
+    }
+}
