@@ -1,0 +1,4 @@
+pub mod Joint
+pub mod JointSteps
+pub mod Bars
+pub mod Ends
