@@ -15,7 +15,7 @@ mod tickets;
 
 pub use events::Entry;
 pub use kinds::Kind;
-pub use lists::{Bytes, Entries};
+pub use lists::{Bytes, Entries, Sequence};
 pub use machines::Machine;
 pub use memory::NoMemory;
 pub use names::Name;

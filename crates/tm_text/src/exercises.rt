@@ -1,10 +1,8 @@
 ghost use Rattle.std.specs.Prelude.{◌≡◌, ◌≤◌, ◌<◌, IfSome, length, slice_get, Some};
 ghost use Rattle.tm_text.specs.Exercises.{ExerciseView, IsWellFormed, own_of, program_of};
-ghost use Rattle.tm_text.specs.Programs.{asked_of};
-ghost use Rattle.std.specs.Prelude.{drop};
 
 use std::marker::Model;
-use tm_base::{Ask, Kind, Name, Op};
+use tm_base::{Kind, Name, Op};
 
 /// An object as the text declares it. A thread's object has the thread's name.
 #[derive(Clone, Copy, Debug, PartialEq, Eq)]
@@ -83,26 +81,12 @@ impl Exercise {
         self.owns[thread as usize - 1]
     }
 
-    /// What the thread's program asks once this many of its calls have their final replies. The
-    /// thread is 1 to `threads`.
-    pub fn asked(&self, thread: u32, done: usize) -> Ask
+    /// The thread's program. The thread is 1 to `threads`.
+    pub fn program(&self, thread: u32) -> &[Statement]
         requires program { 1 ≤ thread }
         requires known { thread ≤ length self.now.programs }
-        ensures { result ≡ asked_of (drop done (program_of self.now thread)) }
+        ensures { result.now ≡ program_of self.now thread }
     {
-        let program = &self.programs[thread as usize - 1];
-        next_ask(program.as_slice(), done)
-    }
-}
-
-/// What the statements from this one on ask next.
-fn next_ask(program: &[Statement], done: usize) -> Ask
-    ensures { result ≡ asked_of (drop done program.now) }
-{
-    if done >= program.len() {
-        return Ask::Over;
-    }
-    match program[done] {
-        Statement::Call { object, op } => Ask::Call { object, op },
+        self.programs[thread as usize - 1].as_slice()
     }
 }

@@ -2,5 +2,7 @@
 #![tactic(auto)]
 
 mod exercises;
+mod scripts;
 
 pub use exercises::{Declared, Exercise, Statement};
+pub use scripts::Script;

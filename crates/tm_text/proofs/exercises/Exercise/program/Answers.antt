@@ -1,7 +1,7 @@
 use Rattle.std.proofs.Common.{◌-◌, [], slice_index_or, arith, ap, sym}
 use Rattle.std.proofs.lemmas.Grind.{common_steps}
 use Rattle.tm_text.proofs.Programs.{program_of-at}
-use Rattle.tm_text.proofs.exercises.Exercise.asked.Goals as goal
+use Rattle.tm_text.proofs.exercises.Exercise.program.Goals as goal
 
 pub returns : goal.returns
 returns c =
