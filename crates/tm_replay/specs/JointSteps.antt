@@ -61,12 +61,17 @@ abbrev pub phase_after : Phase → Entry → Phase
 phase_after phase.Main e = phase.Main
 phase_after p e = phase_by e.op e.reply e.object
 
--- What is left of the program: the final reply of `begin` or of a call answers it.
+-- The reply is the final one of `begin` or of a call: it doesn't wait, and the event is neither `end` nor
+-- `stop`.
+abbrev pub is_final : Op → Reply → Bool
+is_final (op.End cut) r = false
+is_final op.Stop r = false
+is_final o reply.Wait = false
+is_final o r = true
+
+-- What is left of the program: a final reply answers it.
 abbrev pub rest_by : Op → Reply → Rest → Rest
-rest_by (op.End cut) r rest = rest
-rest_by op.Stop r rest = rest
-rest_by o reply.Wait rest = rest
-rest_by o r rest = answered rest r
+rest_by o r rest = if is_final o r then answered rest r else rest
 
 -- Where the thread stands after its event.
 abbrev pub stepped : Standing → Entry → Standing

@@ -1,0 +1,32 @@
+-- A thread's place in a run.
+use Rattle.std.specs.Prelude.{◌≡◌, ℕ, List, Bool, true, false, Option, MatchBool}
+use Rattle.tm_base.specs.declared.operations.Op.{Op}
+use Rattle.tm_base.specs.declared.operations.Op.TheVariants as op
+use Rattle.tm_base.specs.declared.replies.Reply.{Reply}
+use Rattle.tm_base.specs.declared.outcomes.Ask.TheVariants as ask
+use Rattle.tm_text.specs.declared.exercises.Statement.{Statement}
+use Rattle.tm_text.specs.Programs.{asked_of}
+use Rattle.tm_replay.specs.declared.phases.Phase.{Phase}
+use Rattle.tm_replay.specs.declared.phases.Phase.TheVariants as phase
+use Rattle.tm_replay.specs.Joint.{Standing}
+use Rattle.tm_replay.specs.JointSteps.{is_call, is_stopped}
+use Rattle.tm_session.specs.declared.moves.Move.{Move}
+use Rattle.tm_session.specs.declared.moves.Wish.{Wish}
+
+-- A program thread that hasn't ended.
+abbrev pub GoesOn : Phase → Type 0
+GoesOn phase.Main = ⊥
+GoesOn (phase.Ended cut) = ⊥
+GoesOn p = Unit {0}
+
+abbrev pub move_of : ℕ → Standing → Wish → Move
+move_of t s w = record { thread = t; place = s.next; clock = s.stamp; object = w.object; op = w.op }
+
+-- Where the thread may make calls it ends cut only after the reply `stopped`; where it may not it makes none.
+abbrev pub IsWithin : Bool → Option Reply → Op → Type 0
+IsWithin calls last (op.End cut) = cut ≡ true → MatchBool (is_stopped last) (Unit {0}) (calls ≡ false)
+IsWithin calls last o = is_call o ≡ true → calls ≡ true
+
+-- What the statements ask is a call.
+abbrev pub AsksCalls : List Statement → Type 0
+AsksCalls left = (object : ℕ) (o : Op) → asked_of left ≡ ask.Call object o → is_call o ≡ true
