@@ -1,0 +1,103 @@
+-- What each lawful event does to a sound object.
+use Rattle.std.proofs.Common.{◌≡◌, ℕ, ◌+◌, ◌<◌, ◌≤◌, Bool, true, false, ◌||◌, ◌==◌, ⊎_elim, nat_lt, if◌then◌else◌, refl, ap, sym, ◌∙◌, subst, arith, eq-eqb, ne_eqb}
+use Rattle.std.proofs.lemmas.Bool.{cases_eq, cases_lt}
+use Rattle.tm_base.specs.declared.operations.Op.{Op}
+use Rattle.tm_base.specs.declared.operations.Op.TheVariants as op
+use Rattle.tm_base.specs.declared.replies.Reply.{Reply}
+use Rattle.tm_base.specs.States.{State, is_pending}
+use Rattle.tm_base.specs.Steps.{Step}
+use Rattle.tm_base.specs.Machines.{Held, CanStep, is_step}
+use Rattle.tm_base.specs.Histories.{Resumes, Halts, Lawful}
+use Rattle.tm_laws.specs.Counts.{bit, times, is_wait, joins}
+use Rattle.tm_laws.specs.Tidy.{IsTidy, IsOwnOf, IsSound, Moves, is_stop}
+use Rattle.tm_laws.proofs.Counting.{bit-true}
+use Rattle.tm_laws.proofs.Rows.{IsRow}
+use Rattle.tm_laws.proofs.StepRow.{Step-row}
+use Rattle.tm_laws.proofs.Tidiness.{joins-self, joins-other, is_pending-times, times_none, granting-times, granting-tidy}
+use Rattle.tm_laws.proofs.Resumes.{resumed-times, resumed-tidy}
+use Rattle.tm_laws.proofs.Halts.{halted-times, halted-tidy, emptied-own}
+
+-- the pending calls, from how often each thread waits or was granted
+pending_from_times : (s s' : State) (t : ℕ) (r : Reply) → ((u : ℕ) → times s' u ≡ (if u == t then bit (is_wait r) else times s u))
+    → (u : ℕ) → is_pending s' u ≡ (if u == t then is_wait r else is_pending s u)
+pending_from_times s s' t r moved u = is_pending-times s' u ∙ go (u == t) (is_wait r) (moved u)
+  where
+    go : (same w : Bool) → times s' u ≡ (if same then bit w else times s u) → nat_lt 0 (times s' u) ≡ (if same then w else is_pending s u)
+    go true true e = ap (nat_lt 0) e
+    go true false e = ap (nat_lt 0) e
+    go false w e = ap (nat_lt 0) e ∙ sym (is_pending-times s u)
+
+-- all that is to be shown of an event
+moves : (h : Held) (t : ℕ) (o : Op) (r : Reply) (s' : State) → IsTidy h.threads s' → IsOwnOf h.kind s'.own
+    → (times s' t ≡ bit (is_wait r)) → ((u : ℕ) → (t ≡ u → ⊥) → times s' u ≡ times h.state u) → s'.stopped ≡ (is_stop o || h.state.stopped) → Moves h t o r s'
+moves h t o r s' tidy own here there stopped = record { stopped = stopped; sound = record { tidy = tidy; own = own }; times = moved; pending = pending_from_times h.state s' t r moved }
+  where
+    moved : (u : ℕ) → times s' u ≡ (if u == t then bit (is_wait r) else times h.state u)
+    moved u = ⊎_elim
+        (λ (e : t ≡ u). subst (λ (v : ℕ). times s' v ≡ (if v == t then bit (is_wait r) else times h.state v)) e (rw (eq-eqb t t refl) here))
+        (λ (ne : t ≡ u → ⊥). rw (ne_eqb u t (λ e. ne (sym e))) (there u ne)) (cases_eq t u)
+
+no_stop : (o : Op) → is_step o ≡ true → is_stop o ≡ false
+no_stop op.Stop e = absurd cc
+no_stop o e = refl
+
+-- a call
+module _ (h : Held) (t : ℕ) (o : Op) (r : Reply) (s' : State) (sound : IsSound h) (may : CanStep h t o) (step : Step h.kind h.state t o r s') where
+  the_row : IsRow h.kind h.state t r s'
+  the_row = Step-row h.kind h.state t o r s' step
+
+  free : times h.state t ≡ 0
+  free = times_none h.state t may.free
+
+  pub Step-times : (u : ℕ) → times s' u ≡ times h.state u + joins r t u
+  Step-times u = rw the_row.next (granting-times h.threads h.state t r the_row.own the_row.served the_row.answer sound.tidy may.program may.known free the_row.counts u)
+
+  pub Step-tidy : IsTidy h.threads s'
+  Step-tidy = subst (IsTidy h.threads) (sym the_row.next)
+      (granting-tidy h.threads h.state t r the_row.own the_row.served the_row.answer sound.tidy may.program may.known free the_row.counts the_row.final the_row.running)
+
+  pub Step-moves : Moves h t o r s'
+  Step-moves = moves h t o r s' Step-tidy (subst (λ (s : State). IsOwnOf h.kind s.own) (sym the_row.next) the_row.shape)
+      (omega (arith, Step-times t, free, joins-self r t)) (λ u ne. omega (arith, Step-times u, joins-other r t u ne))
+      (rw (no_stop o may.step) (ap (λ s. s.stopped) the_row.next))
+
+  pub Step-runs : h.state.stopped ≡ true → is_wait r ≡ false
+  Step-runs on = the_row.running on (sound.tidy.quiet on)
+
+-- a resume
+module _ (h : Held) (t : ℕ) (r : Reply) (s' : State) (sound : IsSound h) (e : Resumes h.state t r s') where
+  plain : is_wait r ≡ false
+  plain = sound.tidy.final t r e.granted
+
+  Resumes-times : (u : ℕ) → times s' u + bit (t == u) ≡ times h.state u
+  Resumes-times u = rw e.cleared (resumed-times h.state t r e.granted u)
+
+  Resumes-moves : Moves h t op.Resume r s'
+  Resumes-moves = moves h t op.Resume r s'
+      (subst (IsTidy h.threads) (sym e.cleared) (resumed-tidy h.state t r e.granted h.threads sound.tidy))
+      (subst (λ (s : State). IsOwnOf h.kind s.own) (sym e.cleared) sound.own)
+      (omega (arith, Resumes-times t, bit-true (t == t) (eq-eqb t t refl), sound.tidy.once t, ap bit plain))
+      (λ u ne. omega (arith, Resumes-times u, ap bit (ne_eqb t u ne)))
+      (ap (λ s. s.stopped) e.cleared)
+
+-- a stop
+module _ (h : Held) (t : ℕ) (r : Reply) (s' : State) (sound : IsSound h) (e : Halts h.state t r s') where
+  Halts-times : (u : ℕ) → times s' u ≡ times h.state u
+  Halts-times u = rw e.halted (halted-times h.threads h.state sound.tidy u)
+
+  nobody : times h.state t ≡ 0
+  nobody = ⊎_elim (λ (none : times h.state t < 1). omega arith)
+      (λ (some : 1 ≤ times h.state t). let k : (1 ≤ t) × (t ≤ h.threads) = sound.tidy.known t some in absurd (omega (arith, k.0, e.main))) (cases_lt (times h.state t) 1)
+
+  Halts-moves : Moves h t op.Stop r s'
+  Halts-moves = moves h t op.Stop r s'
+      (subst (IsTidy h.threads) (sym e.halted) (halted-tidy h.threads h.state sound.tidy))
+      (subst (λ (s : State). IsOwnOf h.kind s.own) (sym e.halted) (emptied-own h.kind h.state.own sound.own))
+      (omega (arith, Halts-times t, nobody, ap (λ q. bit (is_wait q)) e.reply))
+      (λ u _. Halts-times u)
+      (ap (λ s. s.stopped) e.halted)
+
+pub Lawful-moves : (h : Held) (t : ℕ) (o : Op) (r : Reply) (s' : State) → IsSound h → Lawful h t o r s' → Moves h t o r s'
+Lawful-moves h t op.Resume r s' sound e = Resumes-moves h t r s' sound e
+Lawful-moves h t op.Stop r s' sound e = Halts-moves h t r s' sound e
+Lawful-moves h t o r s' sound e = Step-moves h t o r s' sound e.may e.step

@@ -1,0 +1,16 @@
+-- The laws of the legal histories of one object, as whole statements.
+use Rattle.std.specs.Prelude.{List}
+use Rattle.tm_base.specs.declared.events.Entry.{Entry}
+use Rattle.tm_base.specs.Histories.{Label, Point, IsHistory, Follows, held_at}
+use Rattle.tm_laws.specs.Tidy.{IsSound, Moves}
+
+-- In the state that a legal history leaves no thread waits twice, and none waits once the object was
+-- stopped.
+abbrev pub HistoriesAreTidy : Type 0
+HistoriesAreTidy = (l : Label) (es : List Entry) (p : Point) → IsHistory l es p → IsSound (held_at l p.state)
+
+-- Each event of a legal history makes the call of its thread pending exactly if its reply is `wait`, and
+-- leaves the calls of all others as they are.
+abbrev pub PendingMoves : Type 0
+PendingMoves = (l : Label) (es : List Entry) (p : Point) (e : Entry) (q : Point)
+    → IsHistory l es p → Follows l p e q → Moves (held_at l p.state) e.thread e.op e.reply q.state

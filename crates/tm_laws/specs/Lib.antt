@@ -1,0 +1,4 @@
+pub mod Counts
+pub mod Tidy
+pub mod ThreadObjects
+pub mod Laws

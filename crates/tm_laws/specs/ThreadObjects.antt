@@ -1,0 +1,23 @@
+-- Whether the thread that an object stands for has begun and has ended.
+use Rattle.std.specs.Prelude.{Bool, true, false}
+use Rattle.tm_base.specs.declared.operations.Op.{Op}
+use Rattle.tm_base.specs.declared.operations.Op.TheVariants as op
+use Rattle.tm_base.specs.States.{Own, ThreadOwn}
+
+-- The own part of a thread object whose thread has begun. Objects of other kinds never begin.
+abbrev pub has_begun : Own → Bool
+has_begun (ThreadOwn started begun ended beginning joiners) = begun
+has_begun own = false
+
+-- The same for its end.
+abbrev pub has_ended : Own → Bool
+has_ended (ThreadOwn started begun ended beginning joiners) = ended
+has_ended own = false
+
+abbrev pub is_begin : Op → Bool
+is_begin op.Begin = true
+is_begin o = false
+
+abbrev pub is_end : Op → Bool
+is_end (op.End cut) = true
+is_end o = false

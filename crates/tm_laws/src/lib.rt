@@ -1,0 +1,16 @@
+//! The laws of the textbook machines: what holds in every state of a legal history, and what its events
+//! do to the calls that are pending. Nothing here runs.
+#![tactic(auto)]
+
+ghost use Rattle.tm_laws.specs.Laws.{HistoriesAreTidy, PendingMoves};
+
+/// In every state of a legal history no thread waits twice, only program threads wait, no granted reply
+/// says that the call waits, and nobody waits at a stopped object.
+pub fn histories_are_tidy()
+    ensures { HistoriesAreTidy }
+{}
+
+/// An event makes its thread's call pending exactly if the reply is `Wait`, and leaves the others' alone.
+pub fn pending_moves()
+    ensures { PendingMoves }
+{}
