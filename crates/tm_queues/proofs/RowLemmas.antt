@@ -10,7 +10,8 @@ use Rattle.tm_queues.specs.Desks.{waiting_reply}
 pub gives : (r : Reply) (next : State) → (s' : State) × Gives r s' r next
 gives r next = (next, (refl, refl))
 
-waits_by : (stopped : Bool) (s next : State) →
+-- on a stopped object a call that would wait leaves one state, else another
+pub waits_by : (stopped : Bool) (s next : State) →
     (s' : State) × MatchBool stopped (Gives (waiting_reply stopped) s' reply.Stopped s) (Gives (waiting_reply stopped) s' reply.Wait next)
 waits_by true s next = gives _ _
 waits_by false s next = gives _ _

@@ -132,9 +132,10 @@ impl Desk {
         self.stopped = true;
     }
 
-    /// How many stand in the line.
+    /// How many stand in the line: at most 65.
     pub fn waiters(&self) -> u32
-        ensures { result ≡ length self.now.queue }
+        ensures value { result ≡ length self.now.queue }
+        ensures few { result ≤ 65 }
     {
         self.line.len()
     }

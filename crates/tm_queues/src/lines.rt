@@ -85,7 +85,8 @@ impl Line {
 
     /// How many stand in the line: at most 65.
     pub fn len(&self) -> u32
-        ensures { result ≡ length self.now.queue }
+        ensures value { result ≡ length self.now.queue }
+        ensures few { result ≤ 65 }
     {
         self.queue.len() as u32
     }
