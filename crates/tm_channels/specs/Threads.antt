@@ -15,7 +15,7 @@ abbrev pub thread_held : Inside → Held
 thread_held m = record {
   kind = kind.Thread m.own m.held;
   threads = m.desk.threads;
-  state = record { own = ThreadOwn m.started m.begun m.ended (alone_if m.beginning m.own) m.desk.queue; granted = m.desk.granted; stopped = m.desk.stopped }
+  state = record { own = ThreadOwn m.started m.begun m.ended (alone_if m.beginning m.own) m.desk.queue; granted = m.desk.granted; stopped = m.desk.stopped };
 }
 
 -- The own thread is one of the threads, and waits in `begin` only once it has come there.

@@ -4,7 +4,6 @@ ghost use Rattle.tm_channels.specs.ThreadReplies.{reply_of};
 
 use std::alloc::Global;
 use std::marker::Model;
-
 use tm_base::{Kind, Machine, NoMemory, Op, Reply};
 use tm_queues::Desk;
 
