@@ -1,0 +1,2 @@
+pub mod AnyMachines
+pub mod Made

@@ -1,0 +1,4 @@
+pub mod Lines
+pub mod StoredLines
+pub mod Desks
+pub mod StoredDesks
