@@ -20,6 +20,5 @@ pub use sources::Source;
 pub use standard::{StdSink, StdSource};
 pub use writing::write_all;
 
-
 #[cfg(test)]
 mod tests;

@@ -3,13 +3,11 @@ ghost use Rattle.tm_outside.specs.Faults.{Rose};
 ghost use Rattle.tm_outside.specs.Appending.{Appends};
 ghost use Rattle.tm_outside.specs.MemoryStates.{new_sink, RefusesPiece, after_write, after_failed_write};
 
-use std::alloc::Global;
-use std::marker::Model;
-
-use tm_base::NoMemory;
-
 use crate::faults::{is_listed, one_more};
 use crate::{Failed, Sink};
+use std::alloc::Global;
+use std::marker::Model;
+use tm_base::NoMemory;
 
 /// A sink in memory with room for so many bytes, some of whose writes fail. Contracts see the bytes
 /// written, the room left, how many writes there were, the numbers of those that fail, and how many

@@ -3,13 +3,11 @@ ghost use Rattle.tm_outside.specs.Faults.{Rose};
 ghost use Rattle.tm_outside.specs.Taking.{Takes, IsAtEnd};
 ghost use Rattle.tm_outside.specs.MemoryStates.{new_source, FailsNext, after_read, after_failed_read};
 
-use std::alloc::Global;
-use std::marker::Model;
-
-use tm_base::NoMemory;
-
 use crate::faults::{is_listed, one_more};
 use crate::{Failed, Source};
+use std::alloc::Global;
+use std::marker::Model;
+use tm_base::NoMemory;
 
 /// A source of bytes in memory, some of whose reads fail. Contracts see the bytes left, how many reads
 /// there were, the numbers of those that fail, and how many failed.

@@ -3,21 +3,21 @@ ghost use Rattle.tm_outside.specs.Faults.{Rose};
 ghost use Rattle.tm_outside.specs.Taking.{Takes, TakesFront, TakesFirst, IsAtEnd};
 ghost use Rattle.tm_outside.specs.Reading.{ReadsMore};
 
+use crate::Source;
 use std::alloc::Global;
-
 use tm_base::Bytes;
 
-use crate::Source;
-
-/// Why a source was not read: it failed, or memory was wanting.
+/// Why a source was not read.
 #[derive(Clone, Copy, Debug, PartialEq, Eq)]
 pub enum ReadFault {
+    /// The source failed, as its count of faults shows.
     Failed,
+    /// Memory was wanting.
     NoMemory,
 }
 
 /// How many bytes are asked for in one read, at most.
-const CHUNK: usize = 65536;
+const LONGEST_READ: usize = 65536;
 
 /// Reads a source to its end, or to `limit + 1` bytes, for a limit below 2^63: so more than `limit`
 /// bytes say that the source has more than `limit`. `Failed` only after a fault outside, `NoMemory`
@@ -36,7 +36,7 @@ pub fn read_all<S: Source>(alloc: Global, source: &mut S, limit: u64) -> Result<
     ensures never_falls { S.fault_count source.old ≤ S.fault_count source.new }
 {
     let most = limit as usize + 1;
-    let Ok(mut buf) = vec![in alloc; 0u8; most.min(CHUNK)] else {
+    let Ok(mut buf) = vec![in alloc; 0u8; most.min(LONGEST_READ)] else {
         return Err(ReadFault::NoMemory);
     };
     let mut bytes = Vec::new(alloc);

@@ -3,11 +3,10 @@ ghost use Rattle.tm_outside.specs.Faults.{Rose, next_count};
 ghost use Rattle.tm_outside.specs.Taking.{Takes, IsAtEnd};
 ghost use Rattle.tm_outside.specs.Appending.{Appends};
 
-use std::io::{Read, Write};
-use std::marker::Model;
-
 use crate::faults::one_more;
 use crate::{Failed, Sink, Source};
+use std::io::{Read, Write};
+use std::marker::Model;
 
 /// A source over a reader of std's, as standard input. It tells no bytes. Contracts see the count of
 /// its faults.

@@ -28,7 +28,11 @@ fn writes_that_fail(rt: HostRuntime) -> Result<(), Fail> {
     assert_eq!(rt; write_all(&mut sink, b"abc"), Ok(()));
     assert_eq!(rt; sink.write(b"de"), Ok(2));
     assert_eq!(rt; write_all(&mut sink, b"f"), Err(Failed), "the third write");
-    assert_eq!(rt; write_all(&mut sink, b"ghij"), Err(Failed), "room for three");
+    assert_eq!(rt;
+        write_all(&mut sink, b"ghij"),
+        Err(Failed),
+        "room for three"
+    );
     assert_eq!(rt; write_all(&mut sink, b"klm"), Ok(()));
     assert_eq!(rt; sink.write(b""), Ok(0));
     assert_eq!(rt; sink.bytes(), b"abcdeklm".as_slice());
