@@ -1,0 +1,16 @@
+-- What writing does to the bytes that a sink was given, where it tells them.
+use Rattle.std.specs.Prelude.{◌≡◌, ℕ, List, ◌++◌, Option, None, Some}
+
+-- the new bytes are the old and then these: told bytes stay told, and untold ones untold
+abbrev pub Appends : Option (List ℕ) → Option (List ℕ) → List ℕ → Type 0
+Appends (Some old) (Some new) bytes = new ≡ old ++ bytes
+Appends (Some old) None bytes = ⊥
+Appends None (Some new) bytes = ⊥
+Appends None None bytes = Unit {0}
+
+-- some front of the bytes was appended
+pub record AppendsPrefix (old new : Option (List ℕ)) (bytes : List ℕ) : Type 0 where
+  pub front : List ℕ
+  pub back : List ℕ
+  pub split : bytes ≡ front ++ back
+  pub appended : Appends old new front

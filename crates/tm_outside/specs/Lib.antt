@@ -1,0 +1,5 @@
+pub mod Faults
+pub mod Taking
+pub mod Appending
+pub mod MemoryStates
+pub mod Reading
