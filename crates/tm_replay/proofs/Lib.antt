@@ -1,2 +1,5 @@
 pub mod Lists
 pub mod Counted
+pub mod Moves
+pub mod Soundness
+pub mod Falling

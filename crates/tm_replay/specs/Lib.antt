@@ -2,5 +2,5 @@ pub mod Joint
 pub mod JointSteps
 pub mod Bars
 pub mod Ends
-
+pub mod Sound
 pub mod Work

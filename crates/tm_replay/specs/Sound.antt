@@ -1,0 +1,68 @@
+-- What holds in every joint state of a legal run.
+use Rattle.std.specs.Prelude.{◌≡◌, ℕ, suc, ◌+◌, ◌<◌, ◌≤◌, Bool, true, false, ◌==◌, List, drop, length, slice_get, Option, Some, None, IsSome}
+use Rattle.tm_base.specs.declared.replies.Reply.{Reply}
+use Rattle.tm_base.specs.States.{is_pending}
+use Rattle.tm_laws.specs.Tidy.{IsSound}
+use Rattle.tm_laws.specs.ThreadObjects.{has_begun, has_ended}
+use Rattle.tm_text.specs.declared.exercises.Declared.{Declared}
+use Rattle.tm_text.specs.Exercises.{ExerciseView, program_of, own_of}
+use Rattle.tm_replay.specs.declared.phases.Phase.{Phase}
+use Rattle.tm_replay.specs.declared.phases.Phase.TheVariants as phase
+use Rattle.tm_replay.specs.Joint.{Joint, Standing, Place}
+
+-- The thread's call waits, or was granted and isn't resumed, at this object.
+abbrev pub waits_at : Phase → ℕ → Bool
+waits_at (phase.Waits at) object = at == object
+waits_at p object = false
+
+abbrev pub is_main : Phase → Bool
+is_main phase.Main = true
+is_main p = false
+
+-- The thread has begun.
+abbrev pub is_begun : Phase → Bool
+is_begun phase.NotBegun = false
+is_begun p = true
+
+abbrev pub is_past : Phase → Bool
+is_past (phase.Ended cut) = true
+is_past p = false
+
+-- A thread that has begun and is free has had the reply of `begin`, and one that hasn't begun has had none.
+abbrev pub IsAnswered : Phase → Option Reply → Type 0
+IsAnswered phase.NotBegun last = last ≡ None
+IsAnswered phase.Free last = IsSome last
+IsAnswered p last = Unit {0}
+
+-- A thread waits at one of the objects.
+abbrev pub IsAmong : Phase → ℕ → Type 0
+IsAmong (phase.Waits object) objects = object < objects
+IsAmong p objects = Unit {0}
+
+-- The object is the one that the exercise declares, and sound.
+pub record IsPlaced (x : ExerciseView) (o : ℕ) (b : Place) : Type 0 where
+  pub declared : Declared
+  pub found : slice_get x.objects o ≡ Some declared
+  pub kind : b.held.kind ≡ declared.kind
+  pub threads : b.held.threads ≡ length x.programs
+  pub sound : IsSound b.held
+
+-- The thread goes on with the end of its program that is left.
+pub record IsStanding (x : ExerciseView) (t : ℕ) (s : Standing) : Type 0 where
+  pub main : is_main s.phase ≡ (t == 0)
+  pub done : ℕ
+  pub left : s.rest.left ≡ drop done (program_of x t)
+  pub answered : IsAnswered s.phase s.rest.last
+  pub among : IsAmong s.phase (length x.objects)
+
+-- The joint state is sound: it has the exercise's objects and threads, each object is sound, each thread
+-- waits exactly where its call is pending, and each thread object knows whether its thread has begun and
+-- ended.
+pub record IsSoundJoint (x : ExerciseView) (j : Joint) : Type 0 where
+  pub object_count : length j.objects ≡ length x.objects
+  pub thread_count : length j.standings ≡ suc (length x.programs)
+  pub objects : (o : ℕ) (b : Place) → slice_get j.objects o ≡ Some b → IsPlaced x o b
+  pub standings : (t : ℕ) (s : Standing) → slice_get j.standings t ≡ Some s → IsStanding x t s
+  pub pending : (t o : ℕ) (s : Standing) (b : Place) → 1 ≤ t → slice_get j.standings t ≡ Some s → slice_get j.objects o ≡ Some b → is_pending b.held.state t ≡ waits_at s.phase o
+  pub life : (t : ℕ) (s : Standing) (b : Place) → 1 ≤ t → slice_get j.standings t ≡ Some s → slice_get j.objects (own_of x.objects t) ≡ Some b
+      → (has_begun b.held.state.own ≡ is_begun s.phase) × (has_ended b.held.state.own ≡ is_past s.phase)
