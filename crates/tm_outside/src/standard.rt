@@ -1,15 +1,14 @@
-ghost use Rattle.std.specs.Prelude.{◌≡◌, ◌<◌, ◌≤◌, length, take, None, IfOk, OnOk, OnErr};
+ghost use Rattle.std.specs.Prelude.{◌≡◌, ◌<◌, ◌≤◌, length, IfOk, OnOk, OnErr};
+ghost use Rattle.std.specs.Io.KnownBytes.{ReadConsumes, WriteAppends};
 ghost use Rattle.tm_outside.specs.Faults.{Rose, next_count};
-ghost use Rattle.tm_outside.specs.Taking.{Takes, IsAtEnd};
-ghost use Rattle.tm_outside.specs.Appending.{Appends};
 
 use crate::faults::one_more;
 use crate::{Failed, Sink, Source};
 use std::io::{Read, Write};
 use std::marker::Model;
 
-/// A source over a reader of std's, as standard input. It tells no bytes. Contracts see the count of
-/// its faults.
+/// A source over a reader of std's, as standard input. It tells no bytes. Contracts see the
+/// reader, and the count of its faults.
 #[derive(Drop)]
 pub struct StdSource<R> {
     reader: R,
@@ -19,15 +18,15 @@ pub struct StdSource<R> {
 impl<R> Model for StdSource<R> {
     ghost use Rattle.std.specs.Prelude.{ℕ};
 
-    ghost Value = { ℕ };
+    ghost Value = { R × ℕ };
 
-    ghost view = { λ s. s.raised };
+    ghost view = { λ s. (s.reader, s.raised) };
 }
 
 impl<R> StdSource<R> {
     /// A source over this reader, with no fault yet.
     pub fn make(reader: R) -> StdSource<R>
-        ensures { result ≡ 0 }
+        ensures { result ≡ (reader, 0) }
     {
         StdSource { reader, raised: 0 }
     }
@@ -38,14 +37,24 @@ impl<R: Read + Drop> Source for StdSource<R> {
 
     ghost left = { λ _. None };
 
-    ghost fault_count = { λ s. s };
+    ghost fault_count = { λ s. s.1 };
 
     fn faults(&self) -> u64 {
         self.raised
     }
 
     /// One read of the reader, which is a fault where that fails. Nothing is tried again.
-    fn read(&mut self, buf: &mut [u8]) -> Result<usize, Failed> {
+    fn read(&mut self, buf: &mut [u8]) -> Result<usize, Failed>
+        ensures within { IfOk result (λ n. n ≤ length buf.old) }
+
+        ensures steady { OnOk result (self.new.1 ≡ self.old.1) }
+        ensures rose { OnErr result (Rose self.old.1 self.new.1) }
+        ensures never_falls { self.old.1 ≤ self.new.1 }
+
+        // What the reader gave, where std knows, and one fault at most.
+        ensures given { ReadConsumes (R.remaining self.old.0) (R.remaining self.new.0) result buf.new }
+        ensures after_failure { OnErr result (self.new.1 ≡ next_count self.old.1) }
+    {
         match self.reader.read(buf) {
             Ok(n) => Ok(n),
             Err(_) => {
@@ -56,8 +65,8 @@ impl<R: Read + Drop> Source for StdSource<R> {
     }
 }
 
-/// A sink over a writer of std's, as standard output. It tells no bytes. Contracts see the count of its
-/// faults.
+/// A sink over a writer of std's, as standard output. It tells no bytes. Contracts see the
+/// writer, and the count of its faults.
 #[derive(Drop)]
 pub struct StdSink<W> {
     writer: W,
@@ -67,15 +76,15 @@ pub struct StdSink<W> {
 impl<W> Model for StdSink<W> {
     ghost use Rattle.std.specs.Prelude.{ℕ};
 
-    ghost Value = { ℕ };
+    ghost Value = { W × ℕ };
 
-    ghost view = { λ s. s.raised };
+    ghost view = { λ s. (s.writer, s.raised) };
 }
 
 impl<W> StdSink<W> {
     /// A sink over this writer, with no fault yet.
     pub fn make(writer: W) -> StdSink<W>
-        ensures { result ≡ 0 }
+        ensures { result ≡ (writer, 0) }
     {
         StdSink { writer, raised: 0 }
     }
@@ -86,7 +95,7 @@ impl<W: Write + Drop> Sink for StdSink<W> {
 
     ghost written = { λ _. None };
 
-    ghost fault_count = { λ s. s };
+    ghost fault_count = { λ s. s.1 };
 
     fn faults(&self) -> u64 {
         self.raised
@@ -94,7 +103,18 @@ impl<W: Write + Drop> Sink for StdSink<W> {
 
     /// One write of the writer, which is a fault where that fails, or takes nothing of a piece that is
     /// not empty. Nothing is tried again.
-    fn write(&mut self, piece: &[u8]) -> Result<usize, Failed> {
+    fn write(&mut self, piece: &[u8]) -> Result<usize, Failed>
+        ensures within { IfOk result (λ n. n ≤ length piece.now) }
+        ensures some { IfOk result (λ n. 0 < length piece.now → 0 < n) }
+
+        ensures steady { OnOk result (self.new.1 ≡ self.old.1) }
+        ensures rose { OnErr result (Rose self.old.1 self.new.1) }
+        ensures never_falls { self.old.1 ≤ self.new.1 }
+
+        // What the writer took, where std knows, and one fault at most.
+        ensures taken { WriteAppends (W.contents self.old.0) (W.contents self.new.0) result piece.now }
+        ensures after_failure { OnErr result (self.new.1 ≡ next_count self.old.1) }
+    {
         match self.writer.write(piece) {
             Ok(n) if n > 0 || piece.is_empty() => Ok(n),
             _ => {
