@@ -1,14 +1,15 @@
 -- The alone run of an exercise: one event a turn, under schedule 0 and a limit of calls per thread.
-use Rattle.std.specs.Prelude.{◌≡◌, ℕ, ◌+◌, ◌-◌, ◌<◌, ◌≤◌, true, if◌then◌else◌, List, [], ◌∷◌, ◌++◌, length, find, Option, Some, MatchBool}
+use Rattle.std.specs.Prelude.{◌≡◌, ℕ, zero, suc, ◌+◌, ◌-◌, ◌<◌, ◌≤◌, Bool, true, false, if◌then◌else◌, List, [], ◌∷◌, ◌++◌, length, find, slice_get, Option, Some, None, MatchBool}
 use Rattle.std.specs.List.{range_with_len}
 use Rattle.tm_base.specs.declared.operations.Op.{Op}
 use Rattle.tm_base.specs.declared.operations.Op.TheVariants as op
 use Rattle.tm_base.specs.declared.events.Entry.{Entry}
+use Rattle.tm_base.specs.declared.outcomes.Bar.{Bar}
 use Rattle.tm_base.specs.Runs.{Leads}
 use Rattle.tm_text.specs.Exercises.{ExerciseView}
 use Rattle.tm_replay.specs.Joint.{Joint, Standing, start}
 use Rattle.tm_replay.specs.JointSteps.{JointStep, is_call, is_stopped}
-use Rattle.tm_replay.specs.Bars.{bar_of, bars_of, is_runnable, is_over, is_stuck, waited_objects}
+use Rattle.tm_replay.specs.Bars.{bars_of, is_runnable, is_over, is_stuck, waited_objects}
 
 -- Where the run stands: the joint state, the thread that moved last (0 where none has), and the objects
 -- that `main` still has to stop.
@@ -33,9 +34,18 @@ due_stops p = due_by p.stops p.joint
 abbrev pub cyclic : ℕ → ℕ → List ℕ
 cyclic threads last = range_with_len (last + 1) (threads - last) ++ range_with_len 1 last
 
--- The next runnable thread in cyclic order.
-abbrev pub next_thread : Joint → ℕ → Option ℕ
-next_thread j last = find (λ t. is_runnable (bar_of j t)) (cyclic (length j.standings - 1) last)
+abbrev pub is_runnable_bar : Option Bar → Bool
+is_runnable_bar None = false
+is_runnable_bar (Some b) = is_runnable b
+
+-- The bar of the thread shows that it is runnable.
+abbrev pub runs_at : List Bar → ℕ → Bool
+runs_at bars zero = false
+runs_at bars (suc t) = is_runnable_bar (slice_get bars t)
+
+-- The next runnable thread in cyclic order, by the bars.
+abbrev pub next_thread : List Bar → ℕ → Option ℕ
+next_thread bars last = find (runs_at bars) (cyclic (length bars) last)
 
 -- A thread makes no call beyond its limit, and its end is cut only after the reply `stopped` or at its
 -- limit.
@@ -54,7 +64,7 @@ pub record Halts (x : ExerciseView) (p : Turn) (due : ℕ) (others : List ℕ) (
 -- The next runnable thread goes on.
 pub record Moves (x : ExerciseView) (most : ℕ) (p : Turn) (e : Entry) (q : Turn) : Type 0 where
   pub step : JointStep x p.joint e q.joint
-  pub chosen : next_thread p.joint p.last ≡ Some e.thread
+  pub chosen : next_thread (bars_of p.joint) p.last ≡ Some e.thread
   pub limit : KeepsLimit most step.standing e.op
   pub stops : q.stops ≡ []
   pub last : q.last ≡ e.thread
