@@ -22,3 +22,4 @@ pub mod Moving
 pub mod Runs
 pub mod Reaching
 pub mod Begun
+pub mod Determined

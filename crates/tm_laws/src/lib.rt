@@ -2,7 +2,7 @@
 //! do to the calls that are pending. Nothing here runs.
 #![tactic(auto)]
 
-ghost use Rattle.tm_laws.specs.Laws.{HistoriesAreTidy, PendingMoves};
+ghost use Rattle.tm_laws.specs.Laws.{HistoriesAreTidy, HistoryLeavesOneState, PendingMoves};
 
 /// In every state of a legal history no thread waits twice, only program threads wait, no granted reply
 /// says that the call waits, and nobody waits at a stopped object.
@@ -14,3 +14,9 @@ pub fn histories_are_tidy()
 pub fn pending_moves()
     ensures { PendingMoves }
 {}
+
+/// A legal history leaves one state at most: the events that it holds, with their replies, fix it.
+pub fn history_leaves_one_state()
+    ensures { HistoryLeavesOneState }
+{
+}
