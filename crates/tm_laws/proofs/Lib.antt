@@ -23,3 +23,5 @@ pub mod Runs
 pub mod Reaching
 pub mod Begun
 pub mod Determined
+pub mod Owed
+pub mod Waiters
