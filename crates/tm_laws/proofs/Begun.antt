@@ -1,8 +1,10 @@
 -- Only a begin makes a thread object's thread begun, and only an end makes it ended.
-use Rattle.std.proofs.Common.{◌≡◌, ℕ, Bool, true, false, ◌||◌, ◌==◌, List, [], ◌∷◌, Option, refl, ap, sym, ◌∙◌, subst}
+use Rattle.std.proofs.Common.{⊎_elim, if◌then◌else◌, ◌≡◌, ℕ, Bool, true, false, ◌||◌, ◌==◌, List, [], ◌∷◌, Option, refl, ap, sym, ◌∙◌, subst}
+use Rattle.std.proofs.lemmas.Bool.{cases_Bool}
 use Rattle.tm_base.specs.declared.operations.Op.{Op}
 use Rattle.tm_base.specs.declared.operations.Op.TheVariants as op
 use Rattle.tm_base.specs.declared.replies.Reply.{Reply}
+use Rattle.tm_base.specs.declared.replies.Reply.TheVariants as reply
 use Rattle.tm_base.specs.declared.kinds.Kind.{Kind}
 use Rattle.tm_base.specs.declared.kinds.Kind.TheVariants as kind
 use Rattle.tm_base.specs.Fits.{fits}
@@ -13,6 +15,7 @@ use Rattle.tm_base.specs.ThreadObject.{ThreadStep}
 use Rattle.tm_base.specs.Machines.{Held, IsInTurn}
 use Rattle.tm_base.specs.Histories.{Calls, Lawful}
 use Rattle.tm_laws.specs.Tidy.{IsOwnOf}
+use Rattle.tm_laws.specs.Counts.{is_wait}
 use Rattle.tm_laws.specs.ThreadObjects.{has_begun, has_ended, is_begin, is_end}
 use Rattle.tm_laws.proofs.Rows.{of_parts, either}
 use Rattle.tm_laws.proofs.StepRow.{Step-row, Step-own}
@@ -43,7 +46,7 @@ ThreadStep-noted own started begun false beginning joiners g false t op.Join r s
 ThreadStep-noted own started begun ended beginning joiners g b t (op.End cut) r s' h = noted _ _ refl refl h
 ThreadStep-noted own started begun ended beginning joiners g b t o r s' h = elim h [ ]
 
-abbrev is_thread : Kind → Bool
+abbrev pub is_thread : Kind → Bool
 is_thread (kind.Thread own held) = true
 is_thread k = false
 
@@ -91,6 +94,28 @@ Lawful-noted h t op.Stop r s' e = record {
   ended = ap (λ s. has_ended s.own) e.halted ∙ (emptied-noted h.state.own).1;
 }
 Lawful-noted h t o r s' e = Step-noted h t o r s' e
+
+-- only a thread object makes a begin or an end
+pub Lawful-made : (h : Held) (t : ℕ) (o : Op) (r : Reply) (s' : State) → Lawful h t o r s' → is_thread h.kind ≡ false → (is_begin o ≡ false) × (is_end o ≡ false)
+Lawful-made h t op.Resume r s' e other = (refl, refl)
+Lawful-made h t op.Stop r s' e other = (refl, refl)
+Lawful-made h t o r s' e other = never_made o h.kind e.may.fit other
+
+-- an end never waits
+cut_is_no_wait : (cut : Bool) → is_wait (if cut then reply.Cut else reply.Ok) ≡ false
+cut_is_no_wait true = refl
+cut_is_no_wait false = refl
+
+ThreadEnd-plain : (k : Kind) (own : Own) (s : State) (t : ℕ) (cut : Bool) (r : Reply) (s' : State) → OwnStep k own s t (op.End cut) r s' → is_thread k ≡ true → is_wait r ≡ false
+ThreadEnd-plain (kind.Thread n held) (ThreadOwn true begun ended beginning joiners) s t cut r s' h its = ap is_wait h.0 ∙ cut_is_no_wait cut
+ThreadEnd-plain (kind.Thread n held) (ThreadOwn false begun ended beginning joiners) s t cut r s' h its = ap is_wait h.0 ∙ cut_is_no_wait cut
+ThreadEnd-plain (kind.Thread n held) own s t cut r s' h its = elim h [ ]
+ThreadEnd-plain k own s t cut r s' h its = absurd cc
+
+pub End-plain : (h : Held) (t : ℕ) (cut : Bool) (r : Reply) (s' : State) → Lawful h t (op.End cut) r s' → is_wait r ≡ false
+End-plain h t cut r s' e = ⊎_elim
+    (λ (its : is_thread h.kind ≡ true). ThreadEnd-plain h.kind h.state.own h.state t cut r s' e.step its)
+    (λ (other : is_thread h.kind ≡ false). absurd (cc ((never_made (op.End cut) h.kind e.may.fit other).1))) (cases_Bool (is_thread h.kind))
 
 -- on a thread's object a begin is the thread's own and comes once, and an end is its own, after it and once
 Begin-own : (own : Own) (n : ℕ) (held : Bool) (t : ℕ) → IsOwnOf (kind.Thread n held) own → IsInTurn (kind.Thread n held) own t op.Begin → (t ≡ n) × (has_begun own ≡ false)

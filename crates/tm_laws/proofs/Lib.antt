@@ -22,3 +22,6 @@ pub mod Moving
 pub mod Runs
 pub mod Reaching
 pub mod Begun
+pub mod Determined
+pub mod Owed
+pub mod Waiters

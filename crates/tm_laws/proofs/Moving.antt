@@ -37,7 +37,7 @@ moves h t o r s' tidy own here there stopped = record { stopped = stopped; sound
         (λ (e : t ≡ u). subst (λ (v : ℕ). times s' v ≡ (if v == t then bit (is_wait r) else times h.state v)) e (rw (eq-eqb t t refl) here))
         (λ (ne : t ≡ u → ⊥). rw (ne_eqb u t (λ e. ne (sym e))) (there u ne)) (cases_eq t u)
 
-no_stop : (o : Op) → is_step o ≡ true → is_stop o ≡ false
+pub no_stop : (o : Op) → is_step o ≡ true → is_stop o ≡ false
 no_stop op.Stop e = absurd cc
 no_stop o e = refl
 
@@ -101,3 +101,9 @@ pub Lawful-moves : (h : Held) (t : ℕ) (o : Op) (r : Reply) (s' : State) → Is
 Lawful-moves h t op.Resume r s' sound e = Resumes-moves h t r s' sound e
 Lawful-moves h t op.Stop r s' sound e = Halts-moves h t r s' sound e
 Lawful-moves h t o r s' sound e = Step-moves h t o r s' sound e.may e.step
+
+-- a call waits only while the object wasn't stopped
+pub Lawful-runs : (h : Held) (t : ℕ) (o : Op) (r : Reply) (s' : State) → IsSound h → Lawful h t o r s' → h.state.stopped ≡ true → is_wait r ≡ false
+Lawful-runs h t op.Resume r s' sound e on = sound.tidy.final t r e.granted
+Lawful-runs h t op.Stop r s' sound e on = ap is_wait e.reply
+Lawful-runs h t o r s' sound e on = Step-runs h t o r s' sound e.may e.step on

@@ -1,14 +1,15 @@
 -- An object is sound before its first event.
-use Rattle.std.proofs.Common.{◌≡◌, ℕ, ◌+◌, ◌<◌, ◌≤◌, ⊎_elim, [], replicate, Option, None, is_some, slice_index_or, refl, ap, arith, zero, suc}
+use Rattle.std.proofs.Common.{nat_lt, false, ◌∙◌, ◌≡◌, ℕ, ◌+◌, ◌<◌, ◌≤◌, ⊎_elim, [], replicate, Option, None, is_some, slice_index_or, refl, ap, arith, zero, suc}
 use Rattle.std.proofs.lemmas.Bool.{cases_lt}
 use Rattle.std.proofs.lemmas.List.{length-replicate, get_or-replicate, get_or_past}
 use Rattle.tm_base.specs.declared.replies.Reply.{Reply}
 use Rattle.tm_base.specs.declared.kinds.Kind.{Kind}
 use Rattle.tm_base.specs.declared.kinds.Kind.TheVariants as kind
-use Rattle.tm_base.specs.States.{queued, all_of, start_own, start_state}
+use Rattle.tm_base.specs.States.{queued, all_of, start_own, start_state, is_pending}
 use Rattle.tm_base.specs.Machines.{fresh}
 use Rattle.tm_laws.specs.Counts.{bit, count_in, times}
 use Rattle.tm_laws.specs.Tidy.{IsTidy, IsOwnOf, IsSound}
+use Rattle.tm_laws.proofs.Tidiness.{is_pending-times}
 
 all_of-start : (n : ℕ) → all_of (replicate n []) ≡ []
 all_of-start zero = refl
@@ -40,3 +41,6 @@ start-tidy k threads = record {
 
 pub start-sound : (k : Kind) (threads : ℕ) → IsSound (fresh k threads)
 start-sound k threads = record { tidy = start-tidy k threads; own = start-own k }
+
+pub start-free : (k : Kind) (threads x : ℕ) → is_pending (start_state k threads) x ≡ false
+start-free k threads x = is_pending-times (start_state k threads) x ∙ ap (nat_lt 0) (start-times k threads x)

@@ -1,5 +1,5 @@
 -- The laws of the legal histories of one object, as whole statements.
-use Rattle.std.specs.Prelude.{List}
+use Rattle.std.specs.Prelude.{◌≡◌, List}
 use Rattle.tm_base.specs.declared.events.Entry.{Entry}
 use Rattle.tm_base.specs.Histories.{Label, Point, IsHistory, Follows, held_at}
 use Rattle.tm_laws.specs.Tidy.{IsSound, Moves}
@@ -14,3 +14,7 @@ HistoriesAreTidy = (l : Label) (es : List Entry) (p : Point) → IsHistory l es 
 abbrev pub PendingMoves : Type 0
 PendingMoves = (l : Label) (es : List Entry) (p : Point) (e : Entry) (q : Point)
     → IsHistory l es p → Follows l p e q → Moves (held_at l p.state) e.thread e.op e.reply q.state
+
+-- A history leaves one state at most: the replies that it holds fix it.
+abbrev pub HistoryLeavesOneState : Type 0
+HistoryLeavesOneState = (l : Label) (es : List Entry) (p q : Point) → IsHistory l es p → IsHistory l es q → p ≡ q

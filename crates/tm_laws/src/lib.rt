@@ -2,7 +2,9 @@
 //! do to the calls that are pending. Nothing here runs.
 #![tactic(auto)]
 
-ghost use Rattle.tm_laws.specs.Laws.{HistoriesAreTidy, PendingMoves};
+ghost use Rattle.tm_laws.specs.Owed.{OwedMoves};
+ghost use Rattle.tm_laws.specs.Waiters.{WaitersAreThreads};
+ghost use Rattle.tm_laws.specs.Laws.{HistoriesAreTidy, HistoryLeavesOneState, PendingMoves};
 
 /// In every state of a legal history no thread waits twice, only program threads wait, no granted reply
 /// says that the call waits, and nobody waits at a stopped object.
@@ -13,4 +15,20 @@ pub fn histories_are_tidy()
 /// An event makes its thread's call pending exactly if the reply is `Wait`, and leaves the others' alone.
 pub fn pending_moves()
     ensures { PendingMoves }
+{}
+
+/// A legal history leaves one state at most: the events that it holds, with their replies, fix it.
+pub fn history_leaves_one_state()
+    ensures { HistoryLeavesOneState }
+{}
+
+/// What an object owes: an event pays the owed ones that it makes, and owes one more exactly if its call
+/// waits.
+pub fn owed_moves()
+    ensures { OwedMoves }
+{}
+
+/// In every state of a legal history the queues together are as long as there are threads that wait.
+pub fn waiters_are_threads()
+    ensures { WaitersAreThreads }
 {}

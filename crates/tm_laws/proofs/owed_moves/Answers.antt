@@ -1,0 +1,6 @@
+-- The law, event by event.
+use Rattle.tm_laws.proofs.Owed.{owed-moves}
+use Rattle.tm_laws.proofs.owed_moves.Goals as goal
+
+pub returns : goal.returns
+returns c = λ h t o r s' sound e. owed-moves h t o r s' sound e
