@@ -8,3 +8,6 @@ mod words;
 
 pub use last_lines::last_line;
 pub use rows::row;
+
+#[cfg(test)]
+mod tests;
