@@ -59,10 +59,11 @@ row_of x n e bars =
 abbrev pub names_text : ExerciseView → List ℕ → List ℕ
 names_text x threads = flat_map (λ t. codes " " ++ thread_name x t) threads
 
--- The names of the threads that were cut, where some were.
+-- The names of the threads that were cut; where the run is done, none was.
 abbrev pub cut_text : ExerciseView → End → List ℕ → List ℕ
 cut_text x end.Done cut = []
-cut_text x e cut = names_text x cut
+cut_text x end.Stuck cut = names_text x cut
+cut_text x end.Budget cut = names_text x cut
 
 -- The last line: how the run ended, how many events it had, and who was cut.
 abbrev pub last_line_of : ExerciseView → End → ℕ → List ℕ → List ℕ

@@ -3,7 +3,7 @@ use crate::{last_line, row};
 use std::process::Abort;
 use std::test::Fail;
 use tm_base::{Bar, End, Entry, Op, Reply};
-use tm_text::{Exercise, read};
+use tm_text::read;
 
 /// A mutex `m` and two threads, `A` and `B`.
 const TEXT: &str = "mutex m\nthread A\nlock m\nunlock m\nend\nthread B\nlock m\nunlock m\nend\n";

@@ -1,4 +1,4 @@
-use Rattle.std.proofs.Common.{rules, arith, ◌≤◌}
+use Rattle.std.proofs.Common.{arith}
 use Rattle.tm_timeline.proofs.Owns.{own_of-below}
 use Rattle.tm_timeline.proofs.pieces.push_thread.Goals as goal
 
