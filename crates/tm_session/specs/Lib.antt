@@ -1,3 +1,6 @@
 pub mod Entering
 pub mod Turns
 pub mod Seats
+pub mod Pages
+pub mod Sending
+pub mod Scenes

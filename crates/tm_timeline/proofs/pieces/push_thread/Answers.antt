@@ -1,5 +1,5 @@
 use Rattle.std.proofs.Common.{arith}
-use Rattle.tm_timeline.proofs.Owns.{own_of-below}
+use Rattle.tm_text.proofs.Owns.{own_of-below}
 use Rattle.tm_timeline.proofs.pieces.push_thread.Goals as goal
 
 pub prove-unreachable-requires : goal.prove-unreachable-requires

@@ -1,0 +1,51 @@
+-- What a run writes.
+use Rattle.std.specs.Prelude.{◌≡◌, ℕ, ◌+◌, List, [], ◌++◌, length}
+use Rattle.tm_base.specs.declared.outcomes.End.{End}
+use Rattle.tm_base.specs.declared.events.Entry.{Entry}
+use Rattle.tm_base.specs.Runs.{Leads}
+use Rattle.tm_text.specs.Exercises.{ExerciseView}
+use Rattle.tm_timeline.specs.Rows.{row_of, last_line_of}
+use Rattle.tm_replay.specs.Joint.{Joint, start}
+use Rattle.tm_replay.specs.JointSteps.{JointStep}
+use Rattle.tm_replay.specs.Bars.{bars_of}
+use Rattle.tm_replay.specs.Ends.{end_of, named_of}
+use Rattle.tm_session.specs.Turns.{Turn, BeginsAlone, IsAloneRun}
+
+-- A page of rows: the joint state that its events leave, how many there are, and the rows.
+pub record Page : Type 0 where
+  pub joint : Joint
+  pub count : ℕ
+  pub rows : List ℕ
+
+abbrev pub first_page : ExerciseView → Page
+first_page x = record { joint = start x; count = 0; rows = [] }
+
+-- The next event adds its row, with its number and the bars of the joint state after it.
+pub record AddsRow (x : ExerciseView) (p : Page) (e : Entry) (q : Page) : Type 0 where
+  pub step : JointStep x p.joint e q.joint
+  pub count : q.count ≡ p.count + 1
+  pub rows : q.rows ≡ p.rows ++ row_of x q.count e (bars_of q.joint)
+
+-- The page has the rows of these events.
+abbrev pub AreRows : ExerciseView → List Entry → Page → Type 0
+AreRows x es p = Leads (AddsRow x) (first_page x) es p
+
+-- The bytes are those of an alone run: the rows of its events and its last line.
+pub record IsAloneText (x : ExerciseView) (limit : ℕ) (es : List Entry) (end : End) (cut : List ℕ) (bytes : List ℕ) : Type 0 where
+  pub turn : Turn
+  pub run : IsAloneRun x limit es turn
+  pub ended : end ≡ end_of turn.joint
+  pub named : cut ≡ named_of turn.joint
+  pub page : Page
+  pub rows : AreRows x es page
+  pub same : page.joint ≡ turn.joint
+  pub text : bytes ≡ page.rows ++ last_line_of x end (length es) cut
+
+-- The bytes are those of an alone run's first events.
+pub record BeginsAloneText (x : ExerciseView) (limit : ℕ) (bytes : List ℕ) : Type 0 where
+  pub events : List Entry
+  pub turn : Turn
+  pub run : BeginsAlone x limit events turn
+  pub page : Page
+  pub rows : AreRows x events page
+  pub text : bytes ≡ page.rows

