@@ -1,10 +1,10 @@
 //! Runs of exercises. For now a run is alone: one event a turn, by the threads in cyclic order.
 #![tactic(auto)]
 
-mod alone;
+mod runs;
 mod moves;
 mod objects;
 mod scenes;
 mod seats;
 
-pub use alone::{Finished, alone as run_alone};
+pub use runs::{Finished, alone};

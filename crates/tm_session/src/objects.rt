@@ -1,7 +1,11 @@
-ghost use Rattle.std.specs.Prelude.{◌≡◌, ◌<◌, ◌≤◌, ◌^◌, IfOk};
+ghost use Rattle.std.specs.Prelude.{◌≡◌, ◌<◌, ◌≤◌, ◌^◌, IfOk, true};
+ghost use Rattle.tm_base.specs.States.{is_pending, is_waiting, queued};
+ghost use Rattle.tm_laws.specs.Tidy.{IsSound};
+ghost use Rattle.tm_replay.specs.Bars.{is_some_queued};
 ghost use Rattle.tm_base.specs.Histories.{Lawful};
 ghost use Rattle.tm_base.specs.Machines.{changed};
-ghost use Rattle.tm_book.specs.AnyMachines.{any_held, CanMake};
+ghost use Rattle.tm_book.specs.AnyMachines.{any_held};
+ghost use Rattle.tm_book.specs.Made.{CanMake};
 ghost use Rattle.tm_replay.specs.Joint.{first_place};
 ghost use Rattle.tm_session.specs.Entering.{CanAnswer, IsEntered};
 
@@ -33,8 +37,7 @@ impl Model for Object {
 impl Object {
     /// An object of the kind before its first event.
     pub fn make(alloc: Global, threads: u32, kind: Kind) -> Result<Object, NoMemory>
-        requires few { threads ≤ 64 }
-        requires can { CanMake kind threads }
+        requires { CanMake kind threads }
         ensures { IfOk result (λ object. object ≡ first_place threads kind) }
     {
         Ok(Object {
@@ -46,14 +49,18 @@ impl Object {
 
     /// Whether the thread's pending call still waits.
     pub fn blocks(&self, thread: u32) -> bool
+        requires pending { is_pending self.now.held.state thread ≡ true }
+        requires sound { IsSound self.now.held }
+        ensures { result ≡ is_waiting self.now.held.state thread }
     {
         self.machine.poll(thread).is_none()
     }
 
-    /// How many calls wait.
-    pub fn waiters(&self) -> u32
+    /// Whether a call waits.
+    pub fn has_waiter(&self) -> bool
+        ensures { result ≡ is_some_queued (queued self.now.held.state.own) }
     {
-        self.machine.waiters()
+        self.machine.waiters() > 0
     }
 
     /// Makes the move's event, and answers its entry.
