@@ -4,3 +4,4 @@ pub mod Seats
 pub mod Pages
 pub mod Sending
 pub mod Scenes
+pub mod Running

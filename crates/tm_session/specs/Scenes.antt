@@ -1,6 +1,61 @@
--- The joint state that a session keeps.
-use Rattle.tm_replay.specs.Joint.{Joint}
+-- The joint state that a session keeps, and one event in it.
+use Rattle.std.specs.Prelude.{◌≡◌, ℕ, suc, ◌^◌, ◌<◌, max, true, Some, slice_get, slice_set}
+use Rattle.tm_base.specs.declared.events.Entry.{Entry}
+use Rattle.tm_base.specs.States.{State, is_pending}
+use Rattle.tm_base.specs.Histories.{Lawful}
+use Rattle.tm_laws.specs.Tidy.{IsSound}
+use Rattle.tm_replay.specs.declared.phases.Phase.{Phase}
+use Rattle.tm_replay.specs.declared.phases.Phase.TheVariants as phase
+use Rattle.tm_replay.specs.Joint.{Joint, Standing, Place}
+use Rattle.tm_replay.specs.JointSteps.{stepped, entered}
+use Rattle.tm_replay.specs.Work.{IsCounted}
 use Rattle.tm_session.specs.declared.scenes.Scene.{Scene}
+use Rattle.tm_session.specs.declared.moves.Wish.{Wish}
+use Rattle.tm_session.specs.Entering.{CanAnswer}
 
 abbrev pub joint_of : Scene → Joint
 joint_of s = record { objects = s.objects.items; standings = s.seats.items }
+
+-- There were few events so far, so that places and stamps are small.
+pub record IsEarly (j : Joint) : Type 0 where
+  pub events : ℕ
+  pub few : events < 2 ^ 30
+  pub counted : IsCounted events j
+
+-- The thread and the object are there, and the object answers the thread.
+pub record CanPerform (j : Joint) (t : ℕ) (w : Wish) : Type 0 where
+  pub early : IsEarly j
+  pub standing : Standing
+  pub thread : slice_get j.standings t ≡ Some standing
+  pub spot : Place
+  pub object : slice_get j.objects w.object ≡ Some spot
+  pub answers : CanAnswer spot.held t w.op
+
+-- The thread made the event that it wished: all of a joint step but that the thread may do it.
+pub record Performs (j : Joint) (t : ℕ) (w : Wish) (e : Entry) (k : Joint) : Type 0 where
+  pub by : e.thread ≡ t
+  pub on : e.object ≡ w.object
+  pub does : e.op ≡ w.op
+  pub standing : Standing
+  pub thread : slice_get j.standings e.thread ≡ Some standing
+  pub spot : Place
+  pub object : slice_get j.objects e.object ≡ Some spot
+  pub place : e.place ≡ standing.next
+  pub at : e.at ≡ suc spot.at
+  pub stamp : e.stamp ≡ suc (max standing.stamp spot.stamp)
+  pub state : State
+  pub lawful : Lawful spot.held e.thread e.op e.reply state
+  pub objects : k.objects ≡ slice_set j.objects e.object (entered spot e state)
+  pub standings : k.standings ≡ slice_set j.standings e.thread (stepped standing e)
+
+-- The call of a thread that waits at the place is pending there.
+pub record IsPendingAt (j : Joint) (t object : ℕ) : Type 0 where
+  pub spot : Place
+  pub found : slice_get j.objects object ≡ Some spot
+  pub pending : is_pending spot.held.state t ≡ true
+  pub sound : IsSound spot.held
+
+-- Where the phase says that the thread waits, its call is pending there.
+abbrev pub CanShow : Joint → ℕ → Phase → Type 0
+CanShow j t (phase.Waits object) = IsPendingAt j t object
+CanShow j t p = Unit {0}

@@ -6,5 +6,6 @@ mod moves;
 mod objects;
 mod scenes;
 mod seats;
+mod turns;
 
 pub use runs::{Finished, alone};

@@ -1,0 +1,32 @@
+-- The objects of an exercise can be made.
+use Rattle.std.proofs.Common.{◌≡◌, ℕ, zero, suc, ◌+◌, ◌<◌, ◌≤◌, Bool, List, [], ◌∷◌, length, filter_map, Option, Some, None, slice_get, refl, ap, sym, ◌∙◌, subst, arith}
+use Rattle.std.specs.List.{range_with_len, cons_option}
+use Rattle.tm_base.specs.declared.kinds.Kind.{Kind}
+use Rattle.tm_base.specs.declared.kinds.Kind.TheVariants as kind
+use Rattle.tm_book.specs.Made.{CanMake, CanBe}
+use Rattle.tm_text.specs.declared.exercises.Declared.{Declared}
+use Rattle.tm_text.specs.Exercises.{ExerciseView, IsWellFormed, IsKindRead, thread_of, thread_of_kind}
+use Rattle.tm_session.proofs.Growing.{range_known}
+
+-- a thread that an object stands for is among the numbers of threads
+listed : (ds : List Declared) (o : ℕ) (d : Declared) (t : ℕ) → slice_get ds o ≡ Some d → thread_of d ≡ Some t → (k : ℕ) × (slice_get (filter_map thread_of ds) k ≡ Some t)
+listed [] o d t h e = absurd cc
+listed (c ∷ ds) zero d t h e =
+    let same : c ≡ d = cc in (0, ap (λ n. slice_get (cons_option n (filter_map thread_of ds)) 0) (ap thread_of same ∙ e))
+listed (c ∷ ds) (suc o) d t h e = go (thread_of c) refl (listed ds o d t h e)
+  where
+    go : (n : Option ℕ) → thread_of c ≡ n → (k : ℕ) × (slice_get (filter_map thread_of ds) k ≡ Some t) → (k : ℕ) × (slice_get (filter_map thread_of (c ∷ ds)) k ≡ Some t)
+    go None is later = (later.0, ap (λ n. slice_get (cons_option n (filter_map thread_of ds)) later.0) is ∙ later.1)
+    go (Some n) is later = (suc later.0, ap (λ m. slice_get (cons_option m (filter_map thread_of ds)) (suc later.0)) is ∙ later.1)
+
+-- each object that was declared can be made
+pub can_make : (x : ExerciseView) → IsWellFormed x → (o : ℕ) (d : Declared) → slice_get x.objects o ≡ Some d → CanMake d.kind (length x.programs)
+can_make x formed o d found = record { few = formed.few_threads; kind = go d.kind refl (formed.kinds o d found) }
+  where
+    go : (k : Kind) → d.kind ≡ k → IsKindRead k → CanBe k (length x.programs)
+    go kind.Mutex e read = tt
+    go (kind.Thread own held) e read =
+        let at = listed x.objects o d own found (ap thread_of_kind e) in
+        let known = range_known 1 (length x.programs) at.0 own (ap (λ l. slice_get l at.0) (sym formed.numbered) ∙ at.1) in
+        (known.0, omega (arith, known.1))
+    go k e read = elim read [ ]

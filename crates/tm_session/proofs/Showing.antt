@@ -1,0 +1,37 @@
+-- What the bars of a sound joint state show.
+use Rattle.std.proofs.Common.{◌≡◌, ℕ, ◌<◌, ◌≤◌, Bool, true, length, Some, slice_get, get_or, refl, ap, sym, ◌∙◌, subst, eq-eqb}
+use Rattle.std.proofs.lemmas.Option.{slice_get-get_or}
+use Rattle.tm_base.specs.declared.kinds.Kind.{Kind}
+use Rattle.tm_base.specs.declared.kinds.Kind.TheVariants as kind
+use Rattle.tm_text.specs.Exercises.{ExerciseView}
+use Rattle.tm_replay.specs.declared.phases.Phase.{Phase}
+use Rattle.tm_replay.specs.declared.phases.Phase.TheVariants as phase
+use Rattle.tm_replay.specs.Joint.{Joint, Standing, Place, first_place}
+use Rattle.tm_replay.specs.Bars.{bar_in, bar_of, bar_for}
+use Rattle.tm_replay.specs.Sound.{IsSoundJoint, IsAmong, waits_at}
+use Rattle.tm_session.specs.Scenes.{CanShow}
+
+-- a sound joint state shows each program thread
+pub can_show : (x : ExerciseView) (j : Joint) (t : ℕ) (s : Standing) → IsSoundJoint x j → 1 ≤ t → slice_get j.standings t ≡ Some s → CanShow j t s.phase
+can_show x j t s sound program seat = go s.phase refl (sound.standings t s seat).among
+  where
+    go : (p : Phase) → s.phase ≡ p → IsAmong p (length x.objects) → CanShow j t p
+    go (phase.Waits object) e among =
+        let inside : object < length j.objects = subst (λ (n : ℕ). object < n) (sym sound.object_count) among in
+        let d : Place = first_place 0 kind.Mutex in
+        let found = slice_get-get_or j.objects object d inside in
+        let b : Place = get_or j.objects object d in
+        record {
+          spot = b;
+          found = found;
+          pending = sound.pending t object s b program seat found ∙ ap (λ p. waits_at p object) e ∙ eq-eqb object object refl;
+          sound = (sound.objects object b found).sound;
+        }
+    go phase.Main e among = tt
+    go phase.NotBegun e among = tt
+    go phase.Free e among = tt
+    go (phase.Ended cut) e among = tt
+
+-- a thread's bar is that of its phase
+pub bar_of-seat : (j : Joint) (t : ℕ) (s : Standing) → slice_get j.standings t ≡ Some s → bar_of j t ≡ bar_in j t s.phase
+bar_of-seat j t s seat = ap (bar_for j t) seat

@@ -1,0 +1,44 @@
+-- A run as the session keeps it.
+use Rattle.std.specs.Prelude.{◌≡◌, ℕ, ◌≤◌, ◌<◌, true, List, [], ◌∷◌, length, slice_get, Some}
+use Rattle.std.specs.List.{AllByRecursion}
+use Rattle.tm_base.specs.declared.events.Entry.{Entry}
+use Rattle.tm_text.specs.Exercises.{ExerciseView, IsWellFormed}
+use Rattle.tm_replay.specs.Joint.{Joint, Standing}
+use Rattle.tm_replay.specs.JointSteps.{JointStep}
+use Rattle.tm_replay.specs.Bars.{bars_of, has_waiter}
+use Rattle.tm_replay.specs.Sound.{IsSoundJoint}
+use Rattle.tm_session.specs.declared.turns.Run.{Run}
+use Rattle.tm_session.specs.Scenes.{joint_of, IsEarly}
+use Rattle.tm_session.specs.Turns.{Turn, next_thread, KeepsLimit}
+
+abbrev pub turn_of : Run → Turn
+turn_of run = record { joint = joint_of run.scene; last = run.last; stops = run.stops.items }
+
+-- The objects rise, and each has a waiter.
+abbrev pub AreWaited : Joint → List ℕ → Type 0
+AreWaited j [] = Unit {0}
+AreWaited j (o ∷ os) = (has_waiter (slice_get j.objects o) ≡ true) × AllByRecursion (λ p. o < p) os × AreWaited j os
+
+-- The run is under way: its exercise is well formed, its joint state is sound and early, the thread that
+-- moved last is one of the exercise's, and the objects that are still to be stopped have waiters.
+pub record IsRunning (x : ExerciseView) (run : Run) : Type 0 where
+  pub formed : IsWellFormed x
+  pub sound : IsSoundJoint x (joint_of run.scene)
+  pub early : IsEarly (joint_of run.scene)
+  pub last : run.last ≤ length x.programs
+  pub waited : AreWaited (joint_of run.scene) run.stops.items
+
+-- `main` can stop the object: it has a waiter.
+pub record HaltsAt (x : ExerciseView) (run : Run) (object : ℕ) : Type 0 where
+  pub formed : IsWellFormed x
+  pub sound : IsSoundJoint x (joint_of run.scene)
+  pub early : IsEarly (joint_of run.scene)
+  pub waited : has_waiter (slice_get (joint_of run.scene).objects object) ≡ true
+
+-- The next runnable thread went on, within its limit.
+pub record MovesOn (x : ExerciseView) (most : ℕ) (old : Run) (e : Entry) (new : Run) : Type 0 where
+  pub step : JointStep x (joint_of old.scene) e (joint_of new.scene)
+  pub chosen : next_thread (bars_of (joint_of old.scene)) old.last ≡ Some e.thread
+  pub limit : KeepsLimit most step.standing e.op
+  pub stops : new.stops.items ≡ old.stops.items
+  pub last : new.last ≡ e.thread
