@@ -11,6 +11,8 @@ mod names;
 mod operations;
 mod outcomes;
 mod replies;
+#[cfg(test)]
+mod tests;
 mod tickets;
 
 pub use events::Entry;
