@@ -1,4 +1,4 @@
-ghost use Rattle.std.specs.Prelude.{◌≡◌, ◌≤◌, length, map};
+ghost use Rattle.std.specs.Prelude.{◌≡◌, ◌≤◌, false, length, map};
 ghost use Rattle.std.specs.List.{list_all};
 ghost use Rattle.tm_text.specs.Reading.{Gives, are_short, mutex_of, programs_of};
 

@@ -1,6 +1,7 @@
 ghost use Rattle.std.specs.Prelude.{◌≡◌, ◌<◌, ◌∷◌, [], length, MatchOption};
-ghost use Rattle.std.specs.List.{list_all};
+ghost use Rattle.std.specs.List.{list_all, position_or_len, prefix_len};
 ghost use Rattle.tm_text.specs.Grammar.{is_blank, is_comment, is_printed, lines_of, without_cr, words_of};
+ghost use Rattle.tm_text.specs.Reading.{is_lf};
 
 /// The first line of bytes, without its LF, and the bytes after it.
 pub fn first_line(bytes: &[u8]) -> (&[u8], &[u8])
@@ -8,9 +9,11 @@ pub fn first_line(bytes: &[u8]) -> (&[u8], &[u8])
     ensures lines { lines_of bytes.now ≡ result.0.now ∷ lines_of result.1.now }
     ensures shorter { length result.1.now < length bytes.now }
 {
-    match bytes.iter().position(|b| *b == b'\n') {
-        None => (bytes, &bytes[bytes.len()..]),
-        Some(at) => (&bytes[..at], &bytes[at + 1..]),
+    let end = line_len(bytes);
+    if end < bytes.len() {
+        (&bytes[..end], &bytes[end + 1..])
+    } else {
+        (bytes, &bytes[end..])
     }
 }
 
@@ -18,9 +21,9 @@ pub fn first_line(bytes: &[u8]) -> (&[u8], &[u8])
 pub fn without_cr(line: &[u8]) -> &[u8]
     ensures { result.now ≡ without_cr line.now }
 {
-    match line.split_last() {
-        Some((b'\r', front)) => front,
-        _ => line,
+    match line.strip_suffix(b"\r".as_slice()) {
+        None => line,
+        Some(front) => front,
     }
 }
 
@@ -29,12 +32,11 @@ pub fn first_word(line: &[u8]) -> Option<(&[u8], &[u8])>
     ensures { MatchOption result (words_of line.now ≡ [])
         (λ found. words_of line.now ≡ found.0.now ∷ words_of found.1.now) }
 {
-    let start = line.iter().position(|b| !is_blank(*b))?;
-    let rest = &line[start..];
-    match rest.iter().position(|b| is_blank(*b)) {
-        None => Some((rest, &rest[rest.len()..])),
-        Some(end) => Some(rest.split_at(end)),
+    let rest = &line[blank_len(line)..];
+    if rest.is_empty() {
+        return None;
     }
+    Some(rest.split_at(word_len(rest)))
 }
 
 /// Whether the line says nothing: it has no word, or its first word begins with `#`.
@@ -53,6 +55,27 @@ pub fn is_printed(line: &[u8]) -> bool
 {
     line.iter()
         .all(|b| *b == b'\t' || (b' ' <= *b && *b <= b'~'))
+}
+
+/// How many bytes stand before the first LF.
+fn line_len(bytes: &[u8]) -> usize
+    ensures { result ≡ position_or_len is_lf bytes.now }
+{
+    bytes.iter().take_while(|b| **b != b'\n').count()
+}
+
+/// How many blanks the line begins with.
+fn blank_len(line: &[u8]) -> usize
+    ensures { result ≡ prefix_len is_blank line.now }
+{
+    line.iter().take_while(|b| is_blank(**b)).count()
+}
+
+/// How many bytes stand before the first blank.
+fn word_len(line: &[u8]) -> usize
+    ensures { result ≡ position_or_len is_blank line.now }
+{
+    line.iter().take_while(|b| !is_blank(**b)).count()
 }
 
 /// Whether the byte separates words.
