@@ -1,2 +1,4 @@
 pub mod Programs
 pub mod Cuts
+pub mod Going
+pub mod Spelling

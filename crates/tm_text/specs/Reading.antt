@@ -1,8 +1,8 @@
 -- How a text is read: what its lines say, the objects they declare, and the threads' programs.
-use Rattle.std.specs.Prelude.{◌≡◌, ℕ, zero, suc, ◌+◌, Bool, true, false, not, ◌&&◌, ◌||◌, ◌==◌, nat_le, if◌then◌else◌, List, [], ◌∷◌, map, length, codes, Option, Some, None, option_map, option_and_then, Result, Ok, Err}
+use Rattle.std.specs.Prelude.{◌≡◌, ℕ, zero, suc, ◌+◌, Bool, true, false, not, ◌&&◌, ◌||◌, ◌==◌, nat_le, if◌then◌else◌, List, [], ◌∷◌, ◌++◌, map, length, codes, Option, Some, None, option_map, option_and_then, Result, Ok, Err}
 use Rattle.std.specs.List.{list_all, list_any}
 use Rattle.std.specs.Str.{bytes_eq}
-use Rattle.tm_base.specs.Names.{is_name}
+use Rattle.tm_base.specs.Names.{IsName, is_name}
 use Rattle.tm_base.specs.declared.operations.Op.{Op}
 use Rattle.tm_base.specs.declared.operations.Op.TheVariants as op
 use Rattle.tm_base.specs.declared.kinds.Kind.{Kind}
@@ -41,6 +41,14 @@ sentence_by word name =
 
 abbrev pub named_of : List ℕ → List ℕ → Option Sentence
 named_of word name = if is_name name then sentence_by word name else None
+
+-- The names of a sentence are names.
+abbrev pub IsNamed : Sentence → Type 0
+IsNamed (says.Mutex name) = IsName name
+IsNamed (says.Thread name) = IsName name
+IsNamed (says.Lock name) = IsName name
+IsNamed (says.Unlock name) = IsName name
+IsNamed says.End = Unit {0}
 
 -- The sentence that words make.
 abbrev pub sentence_of : List (List ℕ) → Option Sentence
@@ -107,19 +115,22 @@ is_mutex_kind k = false
 abbrev pub is_mutex : List ℕ → Declared → Bool
 is_mutex name d = is_mutex_kind d.kind && bytes_eq d.name name
 
--- The number of the mutex of this name.
-abbrev pub mutex_of : List ℕ → List Declared → Option ℕ
-mutex_of name [] = None
-mutex_of name (d ∷ ds) = if is_mutex name d then Some 0 else option_map (λ o. o + 1) (mutex_of name ds)
+-- The number of the mutex of this name, if the first object has this number.
+abbrev pub mutex_from : ℕ → List ℕ → List Declared → Option ℕ
+mutex_from o name [] = None
+mutex_from o name (d ∷ ds) = if is_mutex name d then Some o else mutex_from (o + 1) name ds
+
+-- The call of an operation on the mutex of this name.
+abbrev pub call_of : List Declared → Op → List ℕ → Option Statement
+call_of ds o name = option_map (λ object. statement.Call object o) (mutex_from 0 name ds)
 
 -- The statement in front of the first program.
-abbrev pub put_call : Op → ℕ → List (List Statement) → List (List Statement)
-put_call o object [] = []
-put_call o object (p ∷ ps) = (statement.Call object o ∷ p) ∷ ps
+abbrev pub put_statement : Statement → List (List Statement) → List (List Statement)
+put_statement s [] = []
+put_statement s (p ∷ ps) = (s ∷ p) ∷ ps
 
--- The program with an operation on the mutex of this name in front.
-abbrev pub put_named : List Declared → Op → List ℕ → Option (List (List Statement)) → Option (List (List Statement))
-put_named ds o name ps = option_and_then (λ object. option_map (put_call o object) ps) (mutex_of name ds)
+abbrev pub put_call : Option Statement → Option (List (List Statement)) → Option (List (List Statement))
+put_call s ps = option_and_then (λ t. option_map (put_statement t) ps) s
 
 -- The programs of the threads that sentences declare. Inside a thread the first is what is left of its
 -- program.
@@ -128,14 +139,28 @@ programs_of ds false [] = Some []
 programs_of ds true [] = None
 programs_of ds false (says.Mutex name ∷ ss) = programs_of ds false ss
 programs_of ds false (says.Thread name ∷ ss) = programs_of ds true ss
-programs_of ds true (says.Lock name ∷ ss) = put_named ds op.Lock name (programs_of ds true ss)
-programs_of ds true (says.Unlock name ∷ ss) = put_named ds op.Unlock name (programs_of ds true ss)
+programs_of ds true (says.Lock name ∷ ss) = put_call (call_of ds op.Lock name) (programs_of ds true ss)
+programs_of ds true (says.Unlock name ∷ ss) = put_call (call_of ds op.Unlock name) (programs_of ds true ss)
 programs_of ds true (says.End ∷ ss) = option_map (λ ps. [] ∷ ps) (programs_of ds false ss)
 programs_of ds inside (s ∷ ss) = None
 
+-- The first program with what stands before it in front.
+abbrev pub put_open : List Statement → List (List Statement) → List (List Statement)
+put_open open_program [] = []
+put_open open_program (p ∷ ps) = (open_program ++ p) ∷ ps
+
+-- The programs that were closed, and that of the thread that is open, with those of the sentences after
+-- them.
+abbrev pub spelled_after : List Declared → List (List Statement) → Option (List Statement) → List Sentence → Option (List (List Statement))
+spelled_after ds closed None ss = option_map (λ ps. closed ++ ps) (programs_of ds false ss)
+spelled_after ds closed (Some p) ss = option_map (λ ps. closed ++ put_open p ps) (programs_of ds true ss)
+
 -- There are at most 64 programs, and each has at most 1,000 statements.
+abbrev pub is_short : List Statement → Bool
+is_short p = nat_le (length p) 1000
+
 abbrev pub are_short : List (List Statement) → Bool
-are_short ps = nat_le (length ps) 64 && list_all (λ p. nat_le (length p) 1000) ps
+are_short ps = nat_le (length ps) 64 && list_all is_short ps
 
 abbrev pub with_programs : List Declared → List (List Statement) → Option ExerciseView
 with_programs ds ps = if are_short ps then Some (record { objects = ds; programs = ps }) else None

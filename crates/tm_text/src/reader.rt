@@ -1,7 +1,8 @@
 ghost use Rattle.std.specs.Prelude.{IfOk, IsErrOf};
+ghost use Rattle.std.specs.List.{AllByRecursion};
 ghost use Rattle.tm_text.specs.Exercises.{ExerciseView};
 ghost use Rattle.tm_text.specs.Grammar.{IsExercise};
-ghost use Rattle.tm_text.specs.Reading.{Gives, OneExercise, exercise_of};
+ghost use Rattle.tm_text.specs.Reading.{Gives, IsNamed, OneExercise, exercise_by, exercise_of};
 
 use crate::blocks::{are_short, programs};
 use crate::declarations::{are_fit, objects, owns};
@@ -19,15 +20,24 @@ pub fn read(alloc: Global, bytes: &[u8]) -> Result<Exercise, NoExercise>
     ensures read { IfOk result (λ x. IsExercise bytes.now x) }
     ensures refused { IsErrOf result NoExercise.Text → (x : ExerciseView) → ¬ IsExercise bytes.now x }
 {
+    exercise(alloc, bytes)
+}
+
+/// The exercise of the text, by its lines.
+fn exercise(alloc: Global, bytes: &[u8]) -> Result<Exercise, NoExercise>
+    ensures { Gives (λ x. x) result (exercise_of bytes.now) }
+{
     if bytes.len() > MOST_BYTES {
         return Err(NoExercise::Text);
     }
     let sentences = sentences(alloc, bytes)?;
-    exercise(alloc, sentences.as_slice())
+    spelled(alloc, sentences.as_slice())
 }
 
 /// The exercise that the sentences spell.
-fn exercise(alloc: Global, sentences: &[Sentence]) -> Result<Exercise, NoExercise>
+fn spelled(alloc: Global, sentences: &[Sentence]) -> Result<Exercise, NoExercise>
+    requires { AllByRecursion IsNamed sentences.now }
+    ensures { Gives (λ x. x) result (exercise_by sentences.now) }
 {
     let objects = objects(alloc, sentences)?;
     if !are_fit(objects.as_slice()) {
