@@ -1,11 +1,10 @@
 -- A text of an exercise is read as that exercise.
-use Rattle.std.proofs.Common.{◌≡◌, ◌≢◌, ℕ, zero, suc, ◌+◌, ◌≤◌, Bool, true, false, not, ◌&&◌, ◌||◌, cond, List, [], ◌∷◌, ◌++◌, map, length, slice_index_or, Option, Some, None, option_map, option_and_then, refl, sym, ap, ◌∙◌, subst, arith, append_assoc}
+use Rattle.std.proofs.Common.{◌≡◌, ◌≢◌, ℕ, zero, suc, ◌+◌, ◌≤◌, Bool, true, false, not, ◌&&◌, ◌||◌, List, [], ◌∷◌, ◌++◌, map, length, slice_index_or, Option, Some, None, option_map, option_and_then, refl, sym, ap, ◌∙◌, subst, arith, append_assoc}
 use Rattle.std.specs.Prelude.{codes, flat_map, filter_map, slice_get, nat_le}
 use Rattle.std.specs.List.{AllByRecursion, cons_option, list_all, list_any, range_with_len}
 use Rattle.std.specs.Str.{bytes_eq}
-use Rattle.std.proofs.lemmas.Bool.{cond_both, cond-true, cond-false, false≢true, le-leb}
+use Rattle.std.proofs.lemmas.Bool.{cond_both, cond-true, false≢true, le-leb}
 use Rattle.std.proofs.lemmas.Slice.Eq.{bytes_eq-Decides}
-use Rattle.tm_base.specs.declared.operations.Op.{Op}
 use Rattle.tm_base.specs.declared.operations.Op.TheVariants as op
 use Rattle.tm_base.specs.declared.kinds.Kind.{Kind}
 use Rattle.tm_base.specs.declared.kinds.Kind.TheVariants as kind
@@ -16,8 +15,8 @@ use Rattle.tm_text.specs.declared.exercises.Statement.TheVariants as statement
 use Rattle.tm_text.specs.declared.sentences.Sentence.{Sentence}
 use Rattle.tm_text.specs.declared.sentences.Sentence.TheVariants as says
 use Rattle.tm_text.specs.Exercises.{ExerciseView, IsOfKind, IsStatement, IsKindRead, IsWellFormed, program_of, thread_of, thread_of_kind}
-use Rattle.tm_text.specs.Grammar.{IsExercise, block_of, block_of_kind, lines_of, name_at, name_of, said_lines, spelled, statement_words}
-use Rattle.tm_text.specs.Reading.{IsNamed, are_fit, are_short, at_most_256, call_of, declared_of, exercise_by, exercise_of, is_mutex, is_mutex_kind, is_short, mutex_from, objects_of, programs_of, put_call, put_statement, sentences_of, with_objects, with_programs}
+use Rattle.tm_text.specs.Grammar.{IsExercise, block_of, block_of_kind, lines_of, name_at, name_of, statement_words}
+use Rattle.tm_text.specs.Reading.{IsNamed, are_fit, are_short, at_most_256, declared_of, exercise_by, exercise_of, is_mutex, is_mutex_kind, is_short, mutex_from, objects_of, programs_of, put_call, put_statement, with_objects, with_programs}
 use Rattle.tm_text.proofs.Spelling.{AreSaid, sentence_words, sentences_of-from_said}
 
 -- the sentence of a statement
@@ -216,8 +215,8 @@ known_in : (x : ExerciseView) → IsWellFormed x → IsKnown x.objects
 known_in x h = record {
   names = λ o is. let same = ap name_at is.1 in rw same (h.names o is.0 is.1).0;
   numbers = λ o is.
-    let name : name_of x.objects o ≡ is.0.name = ap name_at is.1 in
-    ap (λ n. mutex_from 0 n x.objects) name ∙ mutex_from-at x.objects 0 o is.0 is.1 is.2 (λ p c at same. h.once p o c is.0 at is.1 same) ∙ none_in_front o;
+      let name : name_of x.objects o ≡ is.0.name = ap name_at is.1 in
+      ap (λ n. mutex_from 0 n x.objects) name ∙ mutex_from-at x.objects 0 o is.0 is.1 is.2 (λ p c at same. h.once p o c is.0 at is.1 same) ∙ none_in_front o;
 }
 
 spoken : (x : ExerciseView) → IsWellFormed x → IsSpoken x

@@ -1,10 +1,9 @@
 -- How a loop of the reader goes on.
-use Rattle.std.proofs.Common.{◌≡◌, ℕ, ◌+◌, Bool, true, false, List, [], ◌∷◌, ◌++◌, Option, Some, None, option_map, option_and_then, length, map, refl, sym, ap, ◌∙◌, append_assoc, append-nil, arith}
-use Rattle.tm_text.specs.declared.exercises.Declared.{Declared}
+use Rattle.std.proofs.Common.{◌≡◌, ℕ, List, [], ◌∷◌, ◌++◌, Option, Some, None, option_map, option_and_then, refl, sym, ap, ◌∙◌, append_assoc, append-nil}
 use Rattle.tm_text.specs.declared.exercises.Statement.{Statement}
 use Rattle.tm_text.specs.declared.sentences.Sentence.{Sentence}
 use Rattle.tm_text.specs.Grammar.{without_cr}
-use Rattle.tm_text.specs.Reading.{said_of, in_front, sentences_of, put_statement, put_call, put_open, programs_of}
+use Rattle.tm_text.specs.Reading.{said_of, in_front, sentences_of, put_statement, put_call, put_open}
 
 -- a sentence at the end of those so far is one in front of those to come
 in_front-more : (front : List Sentence) (s : Sentence) (o : Option (List Sentence)) → option_map (λ ss. front ++ ss) (option_map (in_front (Some s)) o) ≡ option_map (λ ss. (front ++ s ∷ []) ++ ss) o

@@ -1,17 +1,15 @@
 -- What the reader gives is the text's exercise, and the other way round.
-use Rattle.std.proofs.Common.{◌≡◌, ℕ, ◌≤◌, Bool, true, false, List, map, length, Result, Ok, Err, Option, Some, None, refl, sym, ap, ◌∙◌, subst}
+use Rattle.std.proofs.Common.{◌≡◌, ℕ, ◌≤◌, true, false, List, length, Result, Ok, Err, Some, ◌∙◌, subst}
 use Rattle.std.specs.Prelude.{nat_le, IfOk, IsErrOf}
-use Rattle.std.specs.List.{AllByRecursion}
-use Rattle.std.proofs.lemmas.Bool.{cond-true, leb-true, le-leb}
+use Rattle.std.proofs.lemmas.Bool.{leb-true}
 use Rattle.std.proofs.lemmas.Option.{cond_some}
 use Rattle.tm_text.specs.declared.exercises.Declared.{Declared}
-use Rattle.tm_text.specs.declared.exercises.Statement.{Statement}
 use Rattle.tm_text.specs.declared.refusals.NoExercise.{NoExercise}
 use Rattle.tm_text.specs.declared.refusals.NoExercise.TheVariants as no
 use Rattle.tm_text.specs.declared.sentences.Sentence.{Sentence}
-use Rattle.tm_text.specs.Exercises.{ExerciseView, IsWellFormed}
+use Rattle.tm_text.specs.Exercises.{ExerciseView}
 use Rattle.tm_text.specs.Grammar.{IsExercise, lines_of}
-use Rattle.tm_text.specs.Reading.{Fails, Gives, IsNamed, OneExercise, are_fit, are_short, declared_of, exercise_by, exercise_of, objects_of, programs_of, sentences_of, with_objects, with_programs}
+use Rattle.tm_text.specs.Reading.{Gives, OneExercise, are_fit, are_short, declared_of, exercise_by, exercise_of, objects_of, programs_of, sentences_of, with_objects, with_programs}
 use Rattle.tm_text.proofs.Spelling.{AreSaid, both, kept, sentences_of-said}
 use Rattle.tm_text.proofs.Sound.{sentences-spelled, well_formed}
 use Rattle.tm_text.proofs.Complete.{exercise_of-complete}

@@ -1,12 +1,10 @@
 -- What the reader makes of sentences spells them, and is well formed.
-use Rattle.std.proofs.Common.{◌≡◌, ◌≢◌, ℕ, zero, suc, ◌+◌, ◌-◌, ◌<◌, ◌≤◌, Bool, true, false, not, ◌&&◌, ◌||◌, cond, List, [], ◌∷◌, ◌++◌, map, length, drop, slice_index_or, Option, Some, None, option_map, option_and_then, refl, sym, ap, ◌∙◌, subst, arith, append_assoc}
+use Rattle.std.proofs.Common.{◌≡◌, ◌≢◌, ℕ, zero, suc, ◌+◌, ◌<◌, ◌≤◌, Bool, true, false, not, ◌&&◌, ◌||◌, List, [], ◌∷◌, ◌++◌, map, length, drop, slice_index_or, Option, Some, None, option_map, refl, sym, ap, ◌∙◌, subst, arith, append_assoc}
 use Rattle.std.specs.Prelude.{codes, flat_map, filter_map, slice_get, nat_le}
 use Rattle.std.specs.List.{AllByRecursion, list_all, list_any, range_with_len}
 use Rattle.std.specs.Str.{bytes_eq}
-use Rattle.std.proofs.lemmas.Bool.{cond-true, cond-false, false≢true, leb-true}
-use Rattle.std.proofs.lemmas.Bool.Decides.{nat_tests}
+use Rattle.std.proofs.lemmas.Bool.{false≢true, leb-true}
 use Rattle.std.proofs.lemmas.Slice.Eq.{bytes_eq-Decides}
-use Rattle.tm_base.specs.declared.operations.Op.{Op}
 use Rattle.tm_base.specs.declared.operations.Op.TheVariants as op
 use Rattle.tm_base.specs.declared.kinds.Kind.{Kind}
 use Rattle.tm_base.specs.declared.kinds.Kind.TheVariants as kind
@@ -16,10 +14,10 @@ use Rattle.tm_text.specs.declared.exercises.Statement.{Statement}
 use Rattle.tm_text.specs.declared.exercises.Statement.TheVariants as statement
 use Rattle.tm_text.specs.declared.sentences.Sentence.{Sentence}
 use Rattle.tm_text.specs.declared.sentences.Sentence.TheVariants as says
-use Rattle.tm_text.specs.Exercises.{ExerciseView, IsOfKind, IsStatement, IsKindRead, IsWellFormed, own_of, program_of, thread_of}
+use Rattle.tm_text.specs.Exercises.{ExerciseView, IsOfKind, IsStatement, IsKindRead, IsWellFormed, program_of, thread_of}
 use Rattle.tm_text.specs.Grammar.{block_of, name_at, name_of, statement_words, spelled}
-use Rattle.tm_text.specs.Reading.{IsNamed, are_fit, are_short, call_of, declared_of, is_mutex, is_mutex_kind, is_short, mutex_from, owns_of, programs_of, put_call, put_statement}
-use Rattle.tm_text.proofs.Spelling.{sentence_words, both, chosen, kept, mapped}
+use Rattle.tm_text.specs.Reading.{IsNamed, are_fit, are_short, call_of, declared_of, is_mutex, is_mutex_kind, is_short, mutex_from, programs_of, put_call, put_statement}
+use Rattle.tm_text.proofs.Spelling.{sentence_words, both, chosen, mapped}
 
 -- the fact of the value, where there is one
 abbrev given : {X : Type 0} → (X → Type 0) → Option X → Type 0
@@ -59,26 +57,26 @@ mutex_from-found [] k name o e = (cc)
 mutex_from-found (d ∷ ds) k name o e =
     chosen (is_mutex name d) k (mutex_from (k + 1) name ds) o e (IsFound (d ∷ ds) k name o)
     (λ t is.
-      let parts = both_true (is_mutex_kind d.kind) (bytes_eq d.name name) t in
-      record {
-        place = 0;
-        from = omega arith;
-        object = d;
-        there = refl;
-        mutex = is_mutex_kind-Mutex d.kind parts.0;
-        named = (bytes_eq-Decides d.name name).0 parts.1;
-      })
+    let parts = both_true (is_mutex_kind d.kind) (bytes_eq d.name name) t in
+    record {
+      place = 0;
+      from = omega arith;
+      object = d;
+      there = refl;
+      mutex = is_mutex_kind-Mutex d.kind parts.0;
+      named = (bytes_eq-Decides d.name name).0 parts.1;
+    })
     (λ later.
-      let f = mutex_from-found ds (k + 1) name o later in
-      let from = f.from in
-      record {
-        place = suc f.place;
-        from = omega arith;
-        object = f.object;
-        there = f.there;
-        mutex = f.mutex;
-        named = f.named;
-      })
+    let f = mutex_from-found ds (k + 1) name o later in
+    let from = f.from in
+    record {
+      place = suc f.place;
+      from = omega arith;
+      object = f.object;
+      there = f.there;
+      mutex = f.mutex;
+      named = f.named;
+    })
 
 -- the name of an object that is there
 name_in : (ds : List Declared) (o : ℕ) (d : Declared) → slice_get ds o ≡ Some d → name_of ds o ≡ d.name
@@ -140,7 +138,6 @@ left_over ds (says.End ∷ ss) ps e =
     let P : List (List Statement) → Type 0 = λ qs. 0 < length qs in
     let one : 0 < length ([] ∷ m.0) = omega arith in
     subst P m.2 one
-
 
 -- The words of sentences, with this the next thread: outside of a thread those of what they declare, and
 -- inside of one first those of the statements that are left.

@@ -1,9 +1,9 @@
 -- What lines say, as words and as sentences.
-use Rattle.std.proofs.Common.{◌≡◌, ℕ, Bool, true, false, not, cond, List, [], ◌∷◌, ◌++◌, map, Option, Some, None, option_map, option_and_then, refl, sym, ap, ◌∙◌, subst}
+use Rattle.std.proofs.Common.{◌≡◌, ℕ, Bool, true, false, not, cond, List, [], ◌∷◌, map, Option, Some, None, option_map, option_and_then, refl, sym, ap, ◌∙◌, subst}
 use Rattle.std.specs.Prelude.{codes, filter, All}
 use Rattle.std.specs.List.{AllPass, AllByRecursion, list_all}
 use Rattle.std.specs.Str.{bytes_eq}
-use Rattle.std.proofs.lemmas.Bool.{cond_both, cond-true, cond-false, false≢true}
+use Rattle.std.proofs.lemmas.Bool.{cond-true, cond-false}
 use Rattle.std.proofs.lemmas.List.Elements.{All-nil, All-cons, All-head, All-tail}
 use Rattle.std.proofs.lemmas.List.Sums.{AllPass-from_list_all, list_all-from_AllPass}
 use Rattle.std.proofs.lemmas.Slice.Eq.{bytes_eq-Decides}
@@ -11,7 +11,7 @@ use Rattle.tm_base.specs.Names.{IsName, is_name}
 use Rattle.tm_text.specs.declared.sentences.Sentence.{Sentence}
 use Rattle.tm_text.specs.declared.sentences.Sentence.TheVariants as says
 use Rattle.tm_text.specs.Grammar.{without_cr, words_of, is_comment, is_printed}
-use Rattle.tm_text.specs.Reading.{IsNamed, sentence_by, named_of, sentence_of, said_of, in_front, sentences_of}
+use Rattle.tm_text.specs.Reading.{IsNamed, sentence_by, sentence_of, said_of, in_front, sentences_of}
 
 -- the words of a sentence
 abbrev pub sentence_words : Sentence → List (List ℕ)
@@ -106,11 +106,11 @@ says_more line lines s ss e printed spells h =
 said_cases : (line : List ℕ) (said_is : Option Sentence) → said_of line ≡ Some said_is → (P : Type 0) → (is_comment (words_of line) ≡ true → said_is ≡ None → P) → ((s : Sentence) → is_comment (words_of line) ≡ false → AllPass is_printed line → Spells (words_of line) s → said_is ≡ Some s → P) → P
 said_cases line said_is e P none some =
     let go : (b : Bool) → is_comment (words_of line) ≡ b → cond b (Some None) (cond (list_all is_printed line) (option_map (λ s. Some s) (sentence_of (words_of line))) None) ≡ Some said_is → P = λ b. elim b as (λ v. is_comment (words_of line) ≡ v → cond v (Some None) (cond (list_all is_printed line) (option_map (λ s. Some s) (sentence_of (words_of line))) None) ≡ Some said_is → P) [
-      true ↦ (λ c e2. none c (sym (cc)))
-    | false ↦ (λ c e2.
-        let k = kept (list_all is_printed line) (option_map (λ s. Some s) (sentence_of (words_of line))) said_is e2 in
-        let m = mapped (λ s. Some s) (sentence_of (words_of line)) said_is k.1 in
-        some m.0 c (AllPass-from_list_all is_printed line k.0) (sentence_of-spells (words_of line) m.0 m.1) (sym m.2))
+      | true ↦ (λ c e2. none c (sym (cc)))
+      | false ↦ (λ c e2.
+          let k = kept (list_all is_printed line) (option_map (λ s. Some s) (sentence_of (words_of line))) said_is e2 in
+          let m = mapped (λ s. Some s) (sentence_of (words_of line)) said_is k.1 in
+          some m.0 c (AllPass-from_list_all is_printed line k.0) (sentence_of-spells (words_of line) m.0 m.1) (sym m.2))
     ] in
     go (is_comment (words_of line)) refl e
 
@@ -157,14 +157,14 @@ sentences_of-from_said [] [] h = refl
 sentences_of-from_said [] (s ∷ ss) h = let e = h.spelled in (cc)
 sentences_of-from_said (line ∷ lines) ss h =
     let go : (b : Bool) → is_comment (words_of (without_cr line)) ≡ b → sentences_of (line ∷ lines) ≡ Some ss = λ b. elim b as (λ v. is_comment (words_of (without_cr line)) ≡ v → sentences_of (line ∷ lines) ≡ Some ss) [
-      true ↦ (λ c.
-        let same : said (line ∷ lines) ≡ said lines = cond-false (not (is_comment (words_of (without_cr line)))) _ _ (ap not c) in
-        let rest : AreSaid lines ss = record { printed = rw same at h.printed; spelled = rw same at h.spelled; named = h.named } in
-        front_of line lines None ss (said_of-ignored (without_cr line) c) (sentences_of-from_said lines ss rest))
-    | false ↦ (λ c.
-        let same : said (line ∷ lines) ≡ without_cr line ∷ said lines = cond-true (not (is_comment (words_of (without_cr line)))) _ _ (ap not c) in
-        let printed = rw same at h.printed in
-        let spelled : words_of (without_cr line) ∷ map words_of (said lines) ≡ map sentence_words ss = rw same at h.spelled in
-        said_first line lines ss c (λ l. sentences_of-from_said lines l) (All-head (λ l. AllPass is_printed l) (without_cr line) (said lines) printed) (All-tail (λ l. AllPass is_printed l) (without_cr line) (said lines) printed) spelled h.named)
+      | true ↦ (λ c.
+          let same : said (line ∷ lines) ≡ said lines = cond-false (not (is_comment (words_of (without_cr line)))) _ _ (ap not c) in
+          let rest : AreSaid lines ss = record { printed = rw same at h.printed; spelled = rw same at h.spelled; named = h.named } in
+          front_of line lines None ss (said_of-ignored (without_cr line) c) (sentences_of-from_said lines ss rest))
+      | false ↦ (λ c.
+          let same : said (line ∷ lines) ≡ without_cr line ∷ said lines = cond-true (not (is_comment (words_of (without_cr line)))) _ _ (ap not c) in
+          let printed = rw same at h.printed in
+          let spelled : words_of (without_cr line) ∷ map words_of (said lines) ≡ map sentence_words ss = rw same at h.spelled in
+          said_first line lines ss c (λ l. sentences_of-from_said lines l) (All-head (λ l. AllPass is_printed l) (without_cr line) (said lines) printed) (All-tail (λ l. AllPass is_printed l) (without_cr line) (said lines) printed) spelled h.named)
     ] in
     go (is_comment (words_of (without_cr line))) refl

@@ -53,7 +53,7 @@ fn step(
     requires { length objects.now ≤ 256 }
     ensures { (ss : List Sentence) → MatchResult result
         (λ b. spelled_after objects.now (map (λ p. p.items) b.closed.items) (option_map (λ p. p.items) b.begun) ss
-            ≡ spelled_after objects.now (map (λ p. p.items) blocks.closed.items) (option_map (λ p. p.items) blocks.begun) (sentence ∷ ss))
+        ≡ spelled_after objects.now (map (λ p. p.items) blocks.closed.items) (option_map (λ p. p.items) blocks.begun) (sentence ∷ ss))
         (λ e. Fails e (spelled_after objects.now (map (λ p. p.items) blocks.closed.items) (option_map (λ p. p.items) blocks.begun) (sentence ∷ ss))) }
 {
     let Blocks { closed, begun } = blocks;
@@ -71,7 +71,7 @@ fn step_outside(
 ) -> Result<Blocks, NoExercise>
     ensures { (ds : List Declared) (ss : List Sentence) → MatchResult result
         (λ b. spelled_after ds (map (λ p. p.items) b.closed.items) (option_map (λ p. p.items) b.begun) ss
-            ≡ spelled_after ds (map (λ p. p.items) closed.items) None (sentence ∷ ss))
+        ≡ spelled_after ds (map (λ p. p.items) closed.items) None (sentence ∷ ss))
         (λ e. Fails e (spelled_after ds (map (λ p. p.items) closed.items) None (sentence ∷ ss))) }
 {
     let begun = match sentence {
@@ -92,7 +92,7 @@ fn step_inside(
     requires { length objects.now ≤ 256 }
     ensures { (ss : List Sentence) → MatchResult result
         (λ b. spelled_after objects.now (map (λ p. p.items) b.closed.items) (option_map (λ p. p.items) b.begun) ss
-            ≡ spelled_after objects.now (map (λ p. p.items) closed.items) (Some program.items) (sentence ∷ ss))
+        ≡ spelled_after objects.now (map (λ p. p.items) closed.items) (Some program.items) (sentence ∷ ss))
         (λ e. Fails e (spelled_after objects.now (map (λ p. p.items) closed.items) (Some program.items) (sentence ∷ ss))) }
 {
     match sentence {
@@ -100,7 +100,10 @@ fn step_inside(
         Sentence::Unlock(name) => program.push(call(objects, name, Op::Unlock)?)?,
         Sentence::End => {
             closed.push(program)?;
-            return Ok(Blocks { closed, begun: None });
+            return Ok(Blocks {
+                closed,
+                begun: None,
+            });
         }
         _ => return Err(NoExercise::Text),
     }

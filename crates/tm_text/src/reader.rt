@@ -54,5 +54,4 @@ fn spelled(alloc: Global, sentences: &[Sentence]) -> Result<Exercise, NoExercise
 /// A text is that of one exercise at most.
 pub fn one_exercise()
     ensures { OneExercise }
-{
-}
+{}

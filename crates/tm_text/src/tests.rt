@@ -22,11 +22,29 @@ fn reads(rt: HostRuntime) -> Result<(), Fail> {
     assert_eq!(rt; exercise.name(0).bytes(), b"m".as_slice());
     assert_eq!(rt; exercise.name(2).bytes(), b"B".as_slice());
     assert_eq!(rt; exercise.kind(0), Kind::Mutex);
-    assert_eq!(rt; exercise.kind(2), Kind::Thread { own: 2, held: false });
+    assert_eq!(rt;
+        exercise.kind(2),
+        Kind::Thread {
+            own: 2,
+            held: false
+        }
+    );
     assert_eq!(rt; exercise.own(1), 1);
     assert_eq!(rt; exercise.own(2), 2);
-    assert_eq!(rt; exercise.asked(2, 0), Ask::Call { object: 0, op: Op::Lock });
-    assert_eq!(rt; exercise.asked(2, 1), Ask::Call { object: 0, op: Op::Unlock });
+    assert_eq!(rt;
+        exercise.asked(2, 0),
+        Ask::Call {
+            object: 0,
+            op: Op::Lock
+        }
+    );
+    assert_eq!(rt;
+        exercise.asked(2, 1),
+        Ask::Call {
+            object: 0,
+            op: Op::Unlock
+        }
+    );
     assert_eq!(rt; exercise.asked(2, 2), Ask::Over);
     Ok(())
 }

@@ -1,4 +1,4 @@
-use Rattle.std.proofs.Common.{◌≡◌, ◌≤◌, length, drop, [], not, sym, add-one, arith}
+use Rattle.std.proofs.Common.{◌≡◌, drop, [], not, sym, add-one, arith}
 use Rattle.std.proofs.lemmas.List.Sums.{prefix_len-le-length}
 use Rattle.std.proofs.lemmas.List.{drop_all, take_rest}
 use Rattle.tm_text.specs.Reading.{is_lf}

@@ -1,5 +1,5 @@
-use Rattle.std.proofs.Common.{◌≡◌, ◌++◌, Some, option_map, sym, ap, ◌∙◌}
-use Rattle.tm_text.specs.Grammar.{lines_of, without_cr}
+use Rattle.std.proofs.Common.{◌++◌, Some, option_map, sym, ap, ◌∙◌}
+use Rattle.tm_text.specs.Grammar.{lines_of}
 use Rattle.tm_text.specs.Reading.{said_of, sentences_of}
 use Rattle.tm_text.proofs.Going.{sentences_of-more}
 use Rattle.tm_text.proofs.sentences.sentences.Goals as goal
