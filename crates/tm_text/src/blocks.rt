@@ -1,4 +1,4 @@
-ghost use Rattle.std.specs.Prelude.{◌≡◌, ◌≤◌, ◌∷◌, List, false, length, map, MatchResult, option_map, None, Some};
+ghost use Rattle.std.specs.Prelude.{◌≡◌, ◌≤◌, ◌∷◌, List, false, length, map, IfErr, MatchResult, option_map, None, Some};
 ghost use Rattle.std.specs.List.{list_all};
 ghost use Rattle.tm_text.specs.Reading.{Fails, Gives, are_short, is_short, call_of, mutex_from, programs_of, spelled_after};
 
@@ -69,7 +69,8 @@ fn step_outside(
     closed: Vec<Vec<Statement>>,
     sentence: Sentence,
 ) -> Result<Blocks, NoExercise>
-    ensures { (ds : List Declared) (ss : List Sentence) → MatchResult result
+    ensures text { IfErr result (λ e. e ≡ NoExercise.Text) }
+    ensures goes_on { (ds : List Declared) (ss : List Sentence) → MatchResult result
         (λ b. spelled_after ds (map (λ p. p.items) b.closed.items) (option_map (λ p. p.items) b.begun) ss
         ≡ spelled_after ds (map (λ p. p.items) closed.items) None (sentence ∷ ss))
         (λ e. Fails e (spelled_after ds (map (λ p. p.items) closed.items) None (sentence ∷ ss))) }
@@ -116,7 +117,8 @@ fn step_inside(
 /// The call of an operation on the mutex with this name.
 fn call(objects: &[Declared], name: Name, op: Op) -> Result<Statement, NoExercise>
     requires { length objects.now ≤ 256 }
-    ensures { Gives (λ s. s) result (call_of objects.now op name) }
+    ensures value { Gives (λ s. s) result (call_of objects.now op name) }
+    ensures text { IfErr result (λ e. e ≡ NoExercise.Text) }
 {
     match mutex(objects, name) {
         None => Err(NoExercise::Text),

@@ -1,4 +1,4 @@
-ghost use Rattle.std.specs.Prelude.{◌≡◌};
+ghost use Rattle.std.specs.Prelude.{◌≡◌, IfErr};
 ghost use Rattle.tm_text.specs.Grammar.{lines_of, words_of};
 ghost use Rattle.tm_text.specs.Reading.{Gives, named_of, said_of, sentence_of, sentences_of};
 
@@ -35,7 +35,8 @@ pub fn sentences(alloc: Global, bytes: &[u8]) -> Result<Vec<Sentence>, NoExercis
 
 /// What the line says, and nothing where it is to be ignored.
 fn said(line: &[u8]) -> Result<Option<Sentence>, NoExercise>
-    ensures { Gives (λ s. s) result (said_of line.now) }
+    ensures value { Gives (λ s. s) result (said_of line.now) }
+    ensures text { IfErr result (λ e. e ≡ NoExercise.Text) }
 {
     if is_comment(line) {
         return Ok(None);
