@@ -5,3 +5,4 @@ pub mod Showing
 pub mod Growing
 pub mod Making
 pub mod Reading
+pub mod Choosing

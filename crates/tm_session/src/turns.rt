@@ -1,5 +1,5 @@
-ghost use Rattle.std.specs.Prelude.{◌≡◌, ◌≢◌, ◌≤◌, ◌<◌, ◌+◌, ◌-◌, ◌^◌, ℕ, IfOk, OnErr, MatchOption, [], ◌∷◌, length, find, true, false};
-ghost use Rattle.std.specs.List.{range_with_len};
+ghost use Rattle.std.specs.Prelude.{◌≡◌, ◌≢◌, ◌≤◌, ◌<◌, ◌+◌, ◌-◌, ◌^◌, ℕ, IfOk, OnOk, MatchOption, not, [], ◌∷◌, length, find, true, false};
+ghost use Rattle.std.specs.List.{list_all, range_with_len};
 ghost use Rattle.tm_base.specs.declared.operations.Op.TheVariants as op;
 ghost use Rattle.tm_text.specs.Exercises.{IsWellFormed};
 ghost use Rattle.tm_replay.specs.Bars.{bars_of, is_over, is_runnable, is_stuck};
@@ -67,15 +67,36 @@ impl Run {
         requires running { IsRunning exercise.now self.old }
         requires bars { bars.now ≡ bars_of (joint_of self.old.scene) }
         ensures due { IfOk result (λ next. MatchOption next
-            ((due_stops (turn_of self.old) ≡ []) × (self.new ≡ self.old))
+            ((due_stops (turn_of self.old) ≡ []) × (self.new.stops.items ≡ []))
             (λ object. due_stops (turn_of self.old) ≡ object ∷ self.new.stops.items)) }
         ensures scene { self.new.scene ≡ self.old.scene }
         ensures last { self.new.last ≡ self.old.last }
     {
-        if self.stops.is_empty() && is_stuck(bars) {
-            self.stops = self.scene.waited(alloc, exercise)?;
-        }
+        self.refill(alloc, exercise, bars)?;
         Ok(self.stops.pop_front())
+    }
+
+    /// Makes the list of objects that are due.
+    fn refill(
+        &mut self,
+        alloc: Global,
+        exercise: &Exercise,
+        bars: &[Bar],
+    ) -> Result<(), NoMemory>
+        requires running { IsRunning exercise.now self.old }
+        requires bars { bars.now ≡ bars_of (joint_of self.old.scene) }
+        ensures due { OnOk result (self.new.stops.items ≡ due_stops (turn_of self.old)) }
+        ensures scene { self.new.scene ≡ self.old.scene }
+        ensures last { self.new.last ≡ self.old.last }
+    {
+        if !self.stops.is_empty() {
+            return Ok(());
+        }
+        if !is_stuck(bars) {
+            return Ok(());
+        }
+        self.stops = self.scene.waited(alloc, exercise)?;
+        Ok(())
     }
 
     /// `main` stops the object.
@@ -154,7 +175,14 @@ fn is_runnable(bar: Bar) -> bool
 fn is_stuck(bars: &[Bar]) -> bool
     ensures { result ≡ is_stuck bars.now }
 {
-    !is_over(bars) && bars.iter().all(|bar| !is_runnable(*bar))
+    !is_over(bars) && none_runs(bars)
+}
+
+/// Whether no thread is runnable.
+fn none_runs(bars: &[Bar]) -> bool
+    ensures { result ≡ list_all (λ bar. not (is_runnable bar)) bars.now }
+{
+    bars.iter().all(|bar| !is_runnable(*bar))
 }
 
 /// Whether every thread has ended.

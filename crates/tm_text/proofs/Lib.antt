@@ -1,2 +1,9 @@
 pub mod Programs
 pub mod Owns
+pub mod Cuts
+pub mod Going
+pub mod Spelling
+pub mod Sound
+pub mod Complete
+pub mod Readings
+pub mod OwnNumbers

@@ -2,3 +2,4 @@ pub mod Programs
 pub mod Exercises
 pub mod StoredExercises
 pub mod Grammar
+pub mod Reading

@@ -1,5 +1,6 @@
 ghost use Rattle.std.specs.Prelude.{◌≡◌, ◌≤◌, ◌<◌, IfSome, length, slice_get, Some};
 ghost use Rattle.tm_text.specs.Exercises.{ExerciseView, IsWellFormed, own_of, program_of};
+ghost use Rattle.std.specs.Prelude.{ℕ, suc, map};
 
 use std::marker::Model;
 use tm_base::{Kind, Name, Op};
@@ -40,6 +41,24 @@ impl Model for Exercise {
 }
 
 impl Exercise {
+    /// The exercise of these objects and programs. `owns` has the numbers of the threads' own objects.
+    pub(crate) fn from_parts(
+        objects: Vec<Declared>,
+        programs: Vec<Vec<Statement>>,
+        owns: Vec<u32>,
+    ) -> Exercise
+        requires well_formed { IsWellFormed (record { objects = objects.items; programs = map (λ p. p.items) programs.items }) }
+        requires owns { (t : ℕ) → t < length programs.items → slice_get owns.items t ≡ Some (own_of objects.items (suc t)) }
+        requires own_count { length owns.items ≡ length programs.items }
+        ensures { result ≡ record { objects = objects.items; programs = map (λ p. p.items) programs.items } }
+    {
+        Exercise {
+            objects,
+            programs,
+            owns,
+        }
+    }
+
     /// How many threads its programs are for, `main` not counted: 0 to 64.
     pub fn threads(&self) -> u32
         ensures value { result ≡ length self.now.programs }

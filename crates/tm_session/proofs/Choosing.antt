@@ -1,0 +1,128 @@
+-- The thread that moves next.
+use Rattle.std.proofs.Common.{◌≡◌, ◌≢◌, ℕ, zero, suc, ◌+◌, ◌-◌, ◌<◌, ◌≤◌, Bool, true, false, not, ◌&&◌, ◌⊎◌, inl, inr, ⊎_elim, cond, List, [], ◌∷◌, ◌++◌, map, length, find, Option, Some, None, slice_get, refl, ap, sym, ◌∙◌, subst, arith}
+use Rattle.std.specs.List.{range_with_len, list_all}
+use Rattle.std.specs.Option.{option_map, option_or}
+use Rattle.std.proofs.lemmas.Bool.{false≢true, cases_lt}
+use Rattle.std.proofs.lemmas.List.FromFn.{length-range_with_len}
+use Rattle.std.proofs.lemmas.List.Folds.{find-append}
+use Rattle.std.proofs.lemmas.Option.{slice_get-map, slice_get_within}
+use Rattle.tm_base.specs.declared.outcomes.Bar.{Bar}
+use Rattle.tm_replay.specs.Joint.{Joint}
+use Rattle.tm_replay.specs.Bars.{bar_of, bars_of, is_runnable, is_over, is_stuck}
+use Rattle.tm_session.specs.Turns.{runs_at, is_runnable_bar, cyclic, next_thread}
+use Rattle.tm_session.proofs.Growing.{range_known}
+use Rattle.tm_session.proofs.Reading.{found_at}
+
+-- the first number of a range that passes
+pub find-range : (p : ℕ → Bool) (from n t : ℕ) → from ≤ t → t < from + n → ((k : ℕ) → from ≤ k → k < t → p k ≡ false) → p t ≡ true → find p (range_with_len from n) ≡ Some t
+find-range p from zero t low high before here = absurd (omega (arith, low, high))
+find-range p from (suc n) t low high before here = ⊎_elim
+    (λ (later : from < t).
+      let first : p from ≡ false = before from (omega arith) later in
+      ap (λ b. cond b (Some from) (find p (range_with_len (from + 1) n))) first
+      ∙ find-range p (from + 1) n t (omega (arith, later)) (omega (arith, high)) (λ k l h. before k (omega (arith, l)) h) here)
+    (λ (now : t ≤ from).
+      let same : from ≡ t = omega (arith, low, now) in
+      let first : p from ≡ true = ap p same ∙ here in
+      ap (λ b. cond b (Some from) (find p (range_with_len (from + 1) n))) first ∙ ap Some same)
+    (cases_lt from t)
+
+pub find-range_none : (p : ℕ → Bool) (from n : ℕ) → ((k : ℕ) → from ≤ k → k < from + n → p k ≡ false) → find p (range_with_len from n) ≡ None
+find-range_none p from zero before = refl
+find-range_none p from (suc n) before =
+    ap (λ b. cond b (Some from) (find p (range_with_len (from + 1) n))) (before from (omega arith) (omega arith))
+    ∙ find-range_none p (from + 1) n (λ k l h. before k (omega (arith, l)) (omega (arith, h)))
+
+-- what was found passes
+pub find-passes : {A : Type 0} (p : A → Bool) (xs : List A) (x : A) → find p xs ≡ Some x → p x ≡ true
+find-passes p [] x h = absurd cc
+find-passes p (y ∷ xs) x h = go (p y) refl h
+  where
+    go : (b : Bool) → p y ≡ b → cond (p y) (Some y) (find p xs) ≡ Some x → p x ≡ true
+    go true e h = let same : y ≡ x = (let s : Some y ≡ Some x = sym (ap (λ b. cond b (Some y) (find p xs)) e) ∙ h in cc) in ap p (sym same) ∙ e
+    go false e h = find-passes p xs x (sym (ap (λ b. cond b (Some y) (find p xs)) e) ∙ h)
+
+-- where nothing was found none passes
+pub find-none : {A : Type 0} (p : A → Bool) (xs : List A) → find p xs ≡ None → (i : ℕ) (x : A) → slice_get xs i ≡ Some x → p x ≡ false
+find-none p [] h i x at = absurd cc
+find-none p (y ∷ xs) h i x at = go (p y) refl
+  where
+    go : (b : Bool) → p y ≡ b → p x ≡ false
+    go true e = absurd (let s : Some y ≡ None = sym (ap (λ b. cond b (Some y) (find p xs)) e) ∙ h in cc)
+    go false e = at_place i at
+      where
+        at_place : (k : ℕ) → slice_get (y ∷ xs) k ≡ Some x → p x ≡ false
+        at_place zero here = let same : y ≡ x = cc in ap p (sym same) ∙ e
+        at_place (suc k) there = find-none p xs (sym (ap (λ b. cond b (Some y) (find p xs)) e) ∙ h) k x there
+
+-- a thread's bar, by its number
+pub runs_at-bar : (bars : List Bar) (t : ℕ) (b : Bar) → 1 ≤ t → slice_get bars (t - 1) ≡ Some b → runs_at bars t ≡ is_runnable b
+runs_at-bar bars zero b h at = absurd (omega (arith, h))
+runs_at-bar bars (suc t) b h at =
+    let e : suc t - 1 ≡ t = omega arith in
+    ap is_runnable_bar (ap (slice_get bars) (sym e) ∙ at)
+
+slice_get-range : (a n k : ℕ) → k < n → slice_get (range_with_len a n) k ≡ Some (a + k)
+slice_get-range a zero k h = absurd (omega (arith, h))
+slice_get-range a (suc n) zero h = let e : a ≡ a + 0 = omega arith in ap Some e
+slice_get-range a (suc n) (suc k) h = let e : a + 1 + k ≡ a + suc k = omega arith in slice_get-range (a + 1) n k (omega (arith, h)) ∙ ap Some e
+
+-- the bars of a joint state are those of its threads
+pub bar-at : (j : Joint) (t : ℕ) → t < length j.standings - 1 → slice_get (bars_of j) t ≡ Some (bar_of j (suc t))
+bar-at j t h =
+    let e : 1 + t ≡ suc t = omega arith in
+    slice_get-map (bar_of j) (range_with_len 1 (length j.standings - 1)) t ∙ ap (λ o. option_map (bar_of j) o) (slice_get-range 1 (length j.standings - 1) t h ∙ ap Some e)
+
+length-map' : {A B : Type 0} (f : A → B) (xs : List A) → length (map f xs) ≡ length xs
+length-map' f [] = refl
+length-map' f (x ∷ xs) = ap suc (length-map' f xs)
+
+pub bars-count : (j : Joint) → length (bars_of j) ≡ length j.standings - 1
+bars-count j = length-map' (bar_of j) (range_with_len 1 (length j.standings - 1)) ∙ length-range_with_len 1 (length j.standings - 1)
+
+-- a thread that runs by the bars is a program thread, and runnable
+pub runs-known : (j : Joint) (t : ℕ) → runs_at (bars_of j) t ≡ true → (1 ≤ t) × (t < length j.standings) × (is_runnable (bar_of j t) ≡ true)
+runs-known j zero h = absurd (false≢true h)
+runs-known j (suc t) h = go (slice_get (bars_of j) t) refl
+  where
+    go : (o : Option Bar) → slice_get (bars_of j) t ≡ o → (1 ≤ suc t) × (suc t < length j.standings) × (is_runnable (bar_of j (suc t)) ≡ true)
+    go None e = absurd (false≢true (sym (ap is_runnable_bar e) ∙ h))
+    go (Some b) e =
+        let within : t < length (bars_of j) = slice_get_within (bars_of j) t b e in
+        let inside : t < length j.standings - 1 = omega (arith, within, bars-count j) in
+        (omega arith, omega (arith, inside), sym (ap is_runnable_bar (bar-at j t inside)) ∙ h)
+
+-- where no thread in cyclic order runs, none does
+all-from_each : (p : Bar → Bool) (bars : List Bar) → ((i : ℕ) (b : Bar) → slice_get bars i ≡ Some b → p b ≡ true) → list_all p bars ≡ true
+all-from_each p [] each = refl
+all-from_each p (b ∷ bars) each = rw (each 0 b refl) (all-from_each p bars (λ i c at. each (suc i) c at))
+
+none_of_parts : (p : ℕ → Bool) (as bs : List ℕ) → find p (as ++ bs) ≡ None → (find p as ≡ None) × (find p bs ≡ None)
+none_of_parts p as bs h = go (find p as) refl
+  where
+    go : (o : Option ℕ) → find p as ≡ o → (find p as ≡ None) × (find p bs ≡ None)
+    go None e = (e, sym (ap (λ o. option_or o (find p bs)) e) ∙ sym (find-append p as bs) ∙ h)
+    go (Some t) e = absurd (let s : Some t ≡ None = sym (ap (λ o. option_or o (find p bs)) e) ∙ sym (find-append p as bs) ∙ h in cc)
+
+pub none-runs : (bars : List Bar) (last : ℕ) → last ≤ length bars → next_thread bars last ≡ None → list_all (λ b. not (is_runnable b)) bars ≡ true
+none-runs bars last low h = all-from_each (λ b. not (is_runnable b)) bars (λ i b at. ap not (sym (runs_at-bar bars (suc i) b (omega arith) (place i b at)) ∙ idle (suc i) (omega arith) (slice_get_within bars i b at)))
+  where
+    place : (i : ℕ) (b : Bar) → slice_get bars i ≡ Some b → slice_get bars (suc i - 1) ≡ Some b
+    place i b at = let e : i ≡ suc i - 1 = omega arith in ap (slice_get bars) (sym e) ∙ at
+    parts : (find (runs_at bars) (range_with_len (last + 1) (length bars - last)) ≡ None) × (find (runs_at bars) (range_with_len 1 last) ≡ None)
+    parts = none_of_parts (runs_at bars) (range_with_len (last + 1) (length bars - last)) (range_with_len 1 last) h
+    idle : (t : ℕ) → 1 ≤ t → t ≤ length bars → runs_at bars t ≡ false
+    idle t program known = ⊎_elim
+        (λ (after : last < t).
+          let at : last + 1 + (t - last - 1) ≡ t = omega (arith, after) in
+          find-none (runs_at bars) (range_with_len (last + 1) (length bars - last)) parts.0 (t - last - 1) t
+          (slice_get-range (last + 1) (length bars - last) (t - last - 1) (omega (arith, after, known)) ∙ ap Some at))
+        (λ (upto : t ≤ last).
+          let at : 1 + (t - 1) ≡ t = omega (arith, program) in
+          find-none (runs_at bars) (range_with_len 1 last) parts.1 (t - 1) t (slice_get-range 1 last (t - 1) (omega (arith, program, upto)) ∙ ap Some at))
+        (cases_lt last t)
+
+-- so where the state isn't stuck and a thread hasn't ended, one is chosen
+pub some-chosen : (bars : List Bar) (last : ℕ) → last ≤ length bars → is_over bars ≡ false → is_stuck bars ≡ false → next_thread bars last ≢ None
+some-chosen bars last low going free h =
+    false≢true (sym free ∙ ap (λ b. not b && list_all (λ c. not (is_runnable c)) bars) going ∙ none-runs bars last low h)

@@ -1,0 +1,105 @@
+use super::*;
+use std::alloc::Global;
+use std::process::Abort;
+use std::test::Fail;
+use tm_base::{Ask, Kind, Op};
+
+/// Whether the text is taken.
+fn takes(alloc: Global, text: &[u8]) -> Result<bool, Fail> {
+    match read(alloc, text) {
+        Ok(_) => Ok(true),
+        Err(NoExercise::Text) => Ok(false),
+        Err(NoExercise::NoMemory) => Err(Fail::from(NoExercise::NoMemory)),
+    }
+}
+
+#[test]
+fn reads(rt: HostRuntime) -> Result<(), Fail> {
+    let text = b"mutex m\nthread A\nlock m\nunlock m\nend\nthread B\nlock m\nunlock m\nend\n";
+    let exercise = read(rt.alloc(), text)?;
+    assert_eq!(rt; exercise.threads(), 2);
+    assert_eq!(rt; exercise.objects(), 3);
+    assert_eq!(rt; exercise.name(0).bytes(), b"m".as_slice());
+    assert_eq!(rt; exercise.name(2).bytes(), b"B".as_slice());
+    assert_eq!(rt; exercise.kind(0), Kind::Mutex);
+    assert_eq!(rt;
+        exercise.kind(2),
+        Kind::Thread {
+            own: 2,
+            held: false
+        }
+    );
+    assert_eq!(rt; exercise.own(1), 1);
+    assert_eq!(rt; exercise.own(2), 2);
+    let script = Script::make(rt.alloc(), &exercise, 2)?;
+    assert_eq!(rt;
+        script.asked(),
+        Ask::Call {
+            object: 0,
+            op: Op::Lock
+        }
+    );
+    Ok(())
+}
+
+#[test]
+fn refuses(rt: HostRuntime) -> Result<(), Fail> {
+    let texts = [
+        "m",
+        "mutex",
+        "mutex 1a",
+        "mutex main",
+        "mutex m\nmutex m",
+        "thread A\nlock m\nend",
+        "thread A\nlock A\nend",
+        "thread A",
+        "end",
+        "lock m",
+        "thread A held\nend",
+        "mutex m\x01",
+        "mutex abcdefghijklmnopq",
+        "thread A\nmutex m\nend",
+        "mutex m\r\r",
+    ];
+    for text in texts {
+        assert!(rt; !takes(rt.alloc(), text.as_bytes())?);
+    }
+    Ok(())
+}
+
+#[test]
+fn takes_oddities(rt: HostRuntime) -> Result<(), Fail> {
+    let texts = [
+        "",
+        "\n",
+        "# x\x01\n",
+        "  #x",
+        "\tmutex\t m\r\n",
+        "mutex m\r",
+        "thread A\nlock m\nend\nmutex m",
+        "mutex abcdefghijklmnop",
+    ];
+    for text in texts {
+        assert!(rt; takes(rt.alloc(), text.as_bytes())?);
+    }
+    Ok(())
+}
+
+/// A text of a thread with this many statements.
+fn long(alloc: Global, statements: usize) -> Result<String, Fail> {
+    let mut text = String::from_str(alloc, "mutex m\nthread A\n")?;
+    for _ in 0..statements {
+        text.push_str("lock m\n")?;
+    }
+    text.push_str("end\n")?;
+    Ok(text)
+}
+
+#[test]
+fn counts_statements(rt: HostRuntime) -> Result<(), Fail> {
+    let text = long(rt.alloc(), 1000)?;
+    assert!(rt; takes(rt.alloc(), text.as_bytes())?);
+    let text = long(rt.alloc(), 1001)?;
+    assert!(rt; !takes(rt.alloc(), text.as_bytes())?);
+    Ok(())
+}
