@@ -50,3 +50,6 @@ room threads queue t q known new = omega (arith, length-IsQueue threads (queue +
 pub IsQueue-tail : (threads : ℕ) (queue rest : List ℕ) (head : Option ℕ) → queue ≡ option_to_list head ++ rest → IsQueue threads queue → IsQueue threads rest
 IsQueue-tail threads queue rest None e q = subst (IsQueue threads) e q
 IsQueue-tail threads queue rest (Some h) e q = (subst (IsQueue threads) e q).2
+
+-- what the methods of a line need
+pub ruleset line_steps = (IsQueue-push, IsQueue-tail, length-IsQueue, room)
