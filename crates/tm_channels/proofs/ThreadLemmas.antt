@@ -1,12 +1,12 @@
 -- Each operation of a thread object has an answer.
-use Rattle.std.proofs.Common.{refl, subst, ◌≡◌, ℕ, Bool, true, false, eqb, List, [], ◌∷◌, ◌++◌, Option}
+use Rattle.std.proofs.Common.{subst, ◌≡◌, ℕ, Bool, true, false, eqb, List, [], ◌∷◌, ◌++◌, Option}
 use Rattle.tm_base.specs.declared.operations.Op.{Op}
 use Rattle.tm_base.specs.declared.operations.Op.TheVariants as op
 use Rattle.tm_base.specs.declared.replies.Reply.{Reply}
 use Rattle.tm_base.specs.declared.replies.Reply.TheVariants as reply
 use Rattle.tm_base.specs.declared.kinds.Kind.TheVariants as kind
 use Rattle.tm_base.specs.Fits.{fits}
-use Rattle.tm_base.specs.States.{State, ThreadOwn, with_own}
+use Rattle.tm_base.specs.States.{State, ThreadOwn}
 use Rattle.tm_base.specs.Rows.{Gives, Waits}
 use Rattle.tm_base.specs.ThreadObject.{ThreadStep}
 use Rattle.tm_base.specs.Machines.{Held, CanStep, Answers, is_step}

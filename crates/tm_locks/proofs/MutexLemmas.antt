@@ -1,5 +1,5 @@
 -- Each operation of a mutex has an answer.
-use Rattle.std.proofs.Common.{refl, subst, ◌≡◌, ℕ, Bool, true, eqb, List, [], ◌∷◌, ◌++◌, Option, None, Some}
+use Rattle.std.proofs.Common.{subst, ◌≡◌, ℕ, Bool, true, eqb, List, [], ◌∷◌, ◌++◌, Option, None, Some}
 use Rattle.tm_base.specs.declared.operations.Op.{Op}
 use Rattle.tm_base.specs.declared.operations.Op.TheVariants as op
 use Rattle.tm_base.specs.declared.replies.Reply.{Reply}
@@ -10,7 +10,6 @@ use Rattle.tm_base.specs.States.{State, MutexOwn, with_own, granting}
 use Rattle.tm_base.specs.Rows.{Gives, Waits}
 use Rattle.tm_base.specs.Mutex.{MutexStep}
 use Rattle.tm_base.specs.Machines.{Held, CanStep, Answers, is_step}
-use Rattle.tm_queues.specs.Desks.{waiting_reply}
 use Rattle.tm_queues.proofs.RowLemmas.{gives, waits, picks}
 use Rattle.tm_locks.specs.MutexReplies.{mutex_reply, reply_of}
 

@@ -106,6 +106,7 @@ impl Machine for MutexM {
     ghost held = { λ m. m };
 
     fn kind(&self) -> Kind {
+        // Any field shows that it is a mutex.
         let _ = &self.desk;
         Kind::Mutex
     }

@@ -1,9 +1,8 @@
 -- Queues in which no thread stands twice.
-use Rattle.std.proofs.Common.{◌≡◌, ℕ, ◌+◌, ◌<◌, ◌≤◌, suc, Bool, true, false, List, [], ◌∷◌, ◌++◌, length, length-append, eqb, arith, ◌⊎◌, ⊎_elim, subst, Option, Some, None, option_to_list}
-use Rattle.std.proofs.lemmas.Bool.{or_parts, or_from, or_cases, eqb-true, eq-eqb}
+use Rattle.std.proofs.Common.{◌≡◌, ℕ, ◌+◌, ◌<◌, ◌≤◌, true, false, List, [], ◌∷◌, ◌++◌, length, length-append, eqb, arith, ⊎_elim, subst, Option, Some, None, option_to_list}
+use Rattle.std.proofs.lemmas.Bool.{or_parts, or_from, or_cases, eqb-true}
 use Rattle.std.proofs.lemmas.Bool.Decides.{nat_tests}
 use Rattle.std.specs.List.{list_any, IsDistinct, AllByRecursion}
-use Rattle.std.proofs.lemmas.List.Folds.{list_any-append}
 use Rattle.std.proofs.lemmas.Map.Steps.{length-le_from_distinct_below}
 use Rattle.tm_base.specs.States.{is_queued}
 use Rattle.tm_queues.specs.Lines.{IsQueue}
@@ -50,3 +49,6 @@ room threads queue t q known new = omega (arith, length-IsQueue threads (queue +
 pub IsQueue-tail : (threads : ℕ) (queue rest : List ℕ) (head : Option ℕ) → queue ≡ option_to_list head ++ rest → IsQueue threads queue → IsQueue threads rest
 IsQueue-tail threads queue rest None e q = subst (IsQueue threads) e q
 IsQueue-tail threads queue rest (Some h) e q = (subst (IsQueue threads) e q).2
+
+-- what the methods of a line need
+pub ruleset line_steps = (IsQueue-push, IsQueue-tail, length-IsQueue, room)

@@ -46,6 +46,7 @@ impl Line {
     }
 
     /// The thread goes to the end of the line, in which it doesn't stand yet.
+    #[tactic(auto, using(crate::proofs::LineLemmas::line_steps))]
     pub fn join(&mut self, thread: u32)
         requires known { thread ≤ self.old.threads }
         requires new { is_queued self.old.queue thread ≡ false }
@@ -55,6 +56,7 @@ impl Line {
     }
 
     /// The oldest thread leaves the line. `None` exactly where nobody stands in it.
+    #[tactic(auto, using(crate::proofs::LineLemmas::line_steps))]
     pub fn take(&mut self) -> Option<u32>
         ensures oldest { MatchOption result ((self.old.queue ≡ []) × (self.new ≡ self.old)) (λ head. self.old ≡ record self.new { queue = head ∷ self.new.queue }) }
         ensures known { IfSome result (λ head. head ≤ self.old.threads) }
@@ -84,6 +86,7 @@ impl Line {
     }
 
     /// How many stand in the line: at most 65.
+    #[tactic(auto, using(crate::proofs::LineLemmas::line_steps))]
     pub fn len(&self) -> u32
         ensures value { result ≡ length self.now.queue }
         ensures few { result ≤ 65 }
