@@ -2,7 +2,9 @@
 use Rattle.std.proofs.Common.{◌≡◌, ℕ, ◌+◌, ◌≤◌, Bool, true, false, ◌||◌, ◌==◌, nat_lt, List, [], ◌∷◌, ◌++◌, refl, arith, eq-eqb}
 use Rattle.std.proofs.lemmas.Bool.Decides.{nat_tests}
 use Rattle.tm_base.specs.States.{is_queued}
-use Rattle.tm_laws.specs.Counts.{bit, count_in}
+use Rattle.tm_base.specs.declared.replies.Reply.{Reply}
+use Rattle.tm_base.specs.declared.replies.Reply.TheVariants as reply
+use Rattle.tm_laws.specs.Counts.{bit, count_in, is_wait, is_grant}
 
 pub count_in-append : (xs ys : List ℕ) (x : ℕ) → count_in (xs ++ ys) x ≡ count_in xs x + count_in ys x
 count_in-append [] ys x = omega arith
@@ -39,3 +41,8 @@ pending-times queue b x = go (is_queued queue x) b (is_queued-count queue x)
 pub empty_from_counts : (queue : List ℕ) → ((x : ℕ) → count_in queue x ≡ 0) → queue ≡ []
 empty_from_counts [] none = refl
 empty_from_counts (y ∷ queue) none = absurd (omega (arith, none y, bit-true (y == y) (eq-eqb y y refl)))
+
+-- a reply that can be granted doesn't say that the call waits
+pub grant-plain : (r : Reply) → is_grant r ≡ true → is_wait r ≡ false
+grant-plain reply.Wait e = absurd cc
+grant-plain r e = refl

@@ -4,7 +4,7 @@ use Rattle.tm_base.specs.declared.replies.Reply.TheVariants as reply
 use Rattle.tm_base.specs.declared.kinds.Kind.{Kind}
 use Rattle.tm_base.specs.declared.kinds.Kind.TheVariants as kind
 use Rattle.tm_base.specs.States.{Own, State, MutexOwn, SemOwn, HoareOwn, MesaOwn, BarrierOwn, RwOwn, SyncOwn, AsyncOwn, ThreadOwn, VarOwn, queued, emptied, all_of, is_pending, halted}
-use Rattle.tm_laws.specs.Counts.{count_in, times, is_wait}
+use Rattle.tm_laws.specs.Counts.{count_in, times, is_grant}
 use Rattle.tm_laws.specs.Tidy.{IsTidy, IsOwnOf}
 use Rattle.tm_laws.proofs.Tidiness.{is_pending-times}
 use Rattle.tm_laws.proofs.Grants.{length-grant_all, granted_at-grant_all, grant_all-from}
@@ -36,7 +36,7 @@ module _ (threads : ℕ) (s : State) (tidy : IsTidy threads s) where
     long = length-grant_all (queued s.own) reply.Stopped s.granted ∙ tidy.long;
     known = λ x h. tidy.known x (omega (arith, halted-times x));
     once = λ x. omega (arith, halted-times x, tidy.once x);
-    final = λ x q e. ⊎_elim (λ (same : q ≡ reply.Stopped). ap is_wait same) (λ (old : slice_index_or s.granted x None ≡ Some q). tidy.final x q old) (grant_all-from (queued s.own) reply.Stopped s.granted x q e);
+    final = λ x q e. ⊎_elim (λ (same : q ≡ reply.Stopped). ap is_grant same) (λ (old : slice_index_or s.granted x None ≡ Some q). tidy.final x q old) (grant_all-from (queued s.own) reply.Stopped s.granted x q e);
     quiet = λ _. queued-emptied s.own;
   }
 

@@ -1,4 +1,5 @@
 pub mod Counting
+pub mod Giving
 pub mod Grants
 pub mod Rows
 pub mod Senders

@@ -10,7 +10,7 @@ use Rattle.tm_base.specs.Machines.{Held, CanStep, is_step}
 use Rattle.tm_base.specs.Histories.{Resumes, Halts, Lawful}
 use Rattle.tm_laws.specs.Counts.{bit, times, is_wait, joins}
 use Rattle.tm_laws.specs.Tidy.{IsTidy, IsOwnOf, IsSound, Moves, is_stop}
-use Rattle.tm_laws.proofs.Counting.{bit-true}
+use Rattle.tm_laws.proofs.Counting.{bit-true, grant-plain}
 use Rattle.tm_laws.proofs.Rows.{IsRow}
 use Rattle.tm_laws.proofs.StepRow.{Step-row}
 use Rattle.tm_laws.proofs.Tidiness.{joins-self, joins-other, is_pending-times, times_none, granting-times, granting-tidy}
@@ -67,7 +67,7 @@ module _ (h : Held) (t : ℕ) (o : Op) (r : Reply) (s' : State) (sound : IsSound
 -- a resume
 module _ (h : Held) (t : ℕ) (r : Reply) (s' : State) (sound : IsSound h) (e : Resumes h.state t r s') where
   plain : is_wait r ≡ false
-  plain = sound.tidy.final t r e.granted
+  plain = grant-plain r (sound.tidy.final t r e.granted)
 
   Resumes-times : (u : ℕ) → times s' u + bit (t == u) ≡ times h.state u
   Resumes-times u = rw e.cleared (resumed-times h.state t r e.granted u)
@@ -104,6 +104,6 @@ Lawful-moves h t o r s' sound e = Step-moves h t o r s' sound e.may e.step
 
 -- a call waits only while the object wasn't stopped
 pub Lawful-runs : (h : Held) (t : ℕ) (o : Op) (r : Reply) (s' : State) → IsSound h → Lawful h t o r s' → h.state.stopped ≡ true → is_wait r ≡ false
-Lawful-runs h t op.Resume r s' sound e on = sound.tidy.final t r e.granted
+Lawful-runs h t op.Resume r s' sound e on = grant-plain r (sound.tidy.final t r e.granted)
 Lawful-runs h t op.Stop r s' sound e on = ap is_wait e.reply
 Lawful-runs h t o r s' sound e on = Step-runs h t o r s' sound e.may e.step on

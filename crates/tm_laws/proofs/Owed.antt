@@ -13,7 +13,7 @@ use Rattle.tm_laws.specs.Counts.{bit, is_wait}
 use Rattle.tm_laws.specs.Tidy.{IsSound, Moves, is_stop}
 use Rattle.tm_laws.specs.ThreadObjects.{is_begin, is_end}
 use Rattle.tm_laws.specs.Owed.{pending_to, own_owed, owed, paid}
-use Rattle.tm_laws.proofs.Counting.{bit_small}
+use Rattle.tm_laws.proofs.Counting.{bit_small, grant-plain}
 use Rattle.tm_laws.proofs.Tidiness.{times_some}
 use Rattle.tm_laws.proofs.Starts.{start-free}
 use Rattle.tm_laws.proofs.Moving.{Lawful-moves, no_stop}
@@ -113,7 +113,7 @@ is_owed o = false
 pub owed-pays : (h : Held) (t : ℕ) (o : Op) (r : Reply) (s' : State) → IsSound h → Lawful h t o r s' → is_owed o ≡ true → 1 + owed (changed h s') ≤ owed h
 owed-pays h t op.Begin r s' sound e is = omega (arith, owed-moves h t op.Begin r s' sound e, bit_small (is_wait r))
 owed-pays h t (op.End cut) r s' sound e is = omega (arith, owed-moves h t (op.End cut) r s' sound e, ap bit (End-plain h t cut r s' e))
-owed-pays h t op.Resume r s' sound e is = omega (arith, owed-moves h t op.Resume r s' sound e, ap bit (sound.tidy.final t r e.granted))
+owed-pays h t op.Resume r s' sound e is = omega (arith, owed-moves h t op.Resume r s' sound e, ap bit (grant-plain r (sound.tidy.final t r e.granted)))
 owed-pays h t op.Stop r s' sound e is = omega (arith, owed-moves h t op.Stop r s' sound e, ap (λ q. bit (is_wait q)) e.reply)
 owed-pays h t o r s' sound e is = absurd cc
 

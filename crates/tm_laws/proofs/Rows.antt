@@ -6,7 +6,7 @@ use Rattle.tm_base.specs.declared.replies.Reply.TheVariants as reply
 use Rattle.tm_base.specs.declared.kinds.Kind.{Kind}
 use Rattle.tm_base.specs.States.{Own, State, queued, with_own, granting}
 use Rattle.tm_base.specs.Rows.{Gives, Waits}
-use Rattle.tm_laws.specs.Counts.{bit, count_in, is_wait, joins}
+use Rattle.tm_laws.specs.Counts.{bit, count_in, is_wait, is_grant, joins}
 use Rattle.tm_laws.specs.Tidy.{IsOwnOf}
 
 -- The new own part, who is granted which reply, and that each thread is still where it was: in a queue,
@@ -17,7 +17,7 @@ pub record IsRow (k : Kind) (s : State) (t : ℕ) (r : Reply) (s' : State) : Typ
   pub answer : Reply
   pub next : s' ≡ granting s own served answer
   pub shape : IsOwnOf k own
-  pub final : is_wait answer ≡ false
+  pub final : is_grant answer ≡ true
   pub counts : (x : ℕ) → count_in (queued s.own) x + joins r t x ≡ count_in served x + count_in (queued own) x
   pub running : s.stopped ≡ true → queued s.own ≡ [] → is_wait r ≡ false
 
@@ -35,7 +35,7 @@ joins-none r t x e = refl
 
 -- the general row
 pub row : {k : Kind} {s : State} {t : ℕ} {r : Reply} {s' : State} (r0 : Reply) (own : Own) (served : List ℕ) (answer : Reply)
-    → IsOwnOf k own → is_wait answer ≡ false
+    → IsOwnOf k own → is_grant answer ≡ true
     → ((x : ℕ) → count_in (queued s.own) x + joins r0 t x ≡ count_in served x + count_in (queued own) x)
     → (s.stopped ≡ true → queued s.own ≡ [] → is_wait r0 ≡ false)
     → Gives r s' r0 (granting s own served answer) → IsRow k s t r s'
@@ -45,7 +45,7 @@ row {k} {s} {t} {r} {s'} r0 own served answer shape final counts running g =
 
 -- nobody joins, and some are granted
 pub serves : {k : Kind} {s : State} {t : ℕ} {r : Reply} {s' : State} (r0 : Reply) (own : Own) (served : List ℕ) (answer : Reply)
-    → IsOwnOf k own → is_wait r0 ≡ false → is_wait answer ≡ false
+    → IsOwnOf k own → is_wait r0 ≡ false → is_grant answer ≡ true
     → ((x : ℕ) → count_in (queued s.own) x ≡ count_in served x + count_in (queued own) x)
     → Gives r s' r0 (granting s own served answer) → IsRow k s t r s'
 serves {k} {s} {t} r0 own served answer shape plain final counts g = row r0 own served answer shape final (λ x. omega (arith, counts x, joins-none r0 t x plain)) (λ _ _. plain) g

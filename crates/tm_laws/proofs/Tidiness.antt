@@ -4,7 +4,7 @@ use Rattle.std.proofs.lemmas.Bool.{cases_eq}
 use Rattle.tm_base.specs.declared.replies.Reply.{Reply}
 use Rattle.tm_base.specs.declared.replies.Reply.TheVariants as reply
 use Rattle.tm_base.specs.States.{Own, State, queued, is_pending, granting}
-use Rattle.tm_laws.specs.Counts.{bit, count_in, times, has_grant, is_wait, joins}
+use Rattle.tm_laws.specs.Counts.{bit, count_in, times, has_grant, is_wait, is_grant, joins}
 use Rattle.tm_laws.specs.Tidy.{IsTidy}
 use Rattle.tm_laws.proofs.Counting.{bit_small, pending-times, empty_from_counts}
 use Rattle.tm_laws.proofs.Grants.{length-grant_all, granted_at-grant_all, grant_all-from}
@@ -56,12 +56,12 @@ module _ (threads : ℕ) (s : State) (t : ℕ) (r : Reply) (own : Own) (served :
             (λ y h. let k : (1 ≤ y) × (y ≤ threads) = inside y (omega (arith, counts y)) in omega (arith, k.1, tidy.long)) x,
       )
 
-  pub granting-tidy : is_wait answer ≡ false → (s.stopped ≡ true → queued s.own ≡ [] → is_wait r ≡ false) → IsTidy threads (granting s own served answer)
+  pub granting-tidy : is_grant answer ≡ true → (s.stopped ≡ true → queued s.own ≡ [] → is_wait r ≡ false) → IsTidy threads (granting s own served answer)
   granting-tidy final running = record {
     long = length-grant_all served answer s.granted ∙ tidy.long;
     known = λ x h. inside x (omega (arith, granting-times x));
     once = λ x. omega (arith, granting-times x, total x);
-    final = λ x q e. ⊎_elim (λ (same : q ≡ answer). ap is_wait same ∙ final) (λ (old : slice_index_or s.granted x None ≡ Some q). tidy.final x q old) (grant_all-from served answer s.granted x q e);
+    final = λ x q e. ⊎_elim (λ (same : q ≡ answer). ap is_grant same ∙ final) (λ (old : slice_index_or s.granted x None ≡ Some q). tidy.final x q old) (grant_all-from served answer s.granted x q e);
     quiet = λ on.
         let empty : queued s.own ≡ [] = tidy.quiet on in
         empty_from_counts (queued own) (λ x. omega (arith, counts x, ap (λ q. count_in q x) empty, joins-none r t x (running on empty)));

@@ -27,6 +27,14 @@ abbrev pub is_wait : Reply → Bool
 is_wait reply.Wait = true
 is_wait r = false
 
+-- A reply that a waiting call can be granted.
+abbrev pub is_grant : Reply → Bool
+is_grant reply.Ok = true
+is_grant (reply.Got value) = true
+is_grant reply.Stopped = true
+is_grant reply.Closed = true
+is_grant r = false
+
 -- 1 for the thread whose call waits by this reply, else 0.
 abbrev pub joins : Reply → ℕ → ℕ → ℕ
 joins reply.Wait t x = bit (t == x)

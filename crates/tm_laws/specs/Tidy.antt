@@ -8,7 +8,7 @@ use Rattle.tm_base.specs.declared.kinds.Kind.{Kind}
 use Rattle.tm_base.specs.declared.kinds.Kind.TheVariants as kind
 use Rattle.tm_base.specs.States.{Own, State, MutexOwn, SemOwn, HoareOwn, MesaOwn, BarrierOwn, RwOwn, SyncOwn, AsyncOwn, ThreadOwn, VarOwn, queued, grant_of, is_pending}
 use Rattle.tm_base.specs.Machines.{Held, changed}
-use Rattle.tm_laws.specs.Counts.{bit, times, is_wait}
+use Rattle.tm_laws.specs.Counts.{bit, times, is_wait, is_grant}
 
 -- The own part is one of the kind.
 abbrev pub IsOwnOf : Kind → Own → Type 0
@@ -25,12 +25,12 @@ IsOwnOf (kind.Var start) (VarOwn value) = Unit {0}
 IsOwnOf k own = ⊥
 
 -- There is a place for each thread's granted reply; who waits or was granted is a program thread, and
--- does it once; no granted reply says that the call waits; and where the object was stopped nobody waits.
+-- does it once; a granted reply is one that a call can be granted, and doesn't say that it waits; and where the object was stopped nobody waits.
 pub record IsTidy (threads : ℕ) (s : State) : Type 0 where
   pub long : length s.granted ≡ threads + 1
   pub known : (x : ℕ) → 1 ≤ times s x → (1 ≤ x) × (x ≤ threads)
   pub once : (x : ℕ) → times s x ≤ 1
-  pub final : (x : ℕ) (r : Reply) → grant_of s x ≡ Some r → is_wait r ≡ false
+  pub final : (x : ℕ) (r : Reply) → grant_of s x ≡ Some r → is_grant r ≡ true
   pub quiet : s.stopped ≡ true → queued s.own ≡ []
 
 -- The object's state is tidy, and its own part is one of its kind.

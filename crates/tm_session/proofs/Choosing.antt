@@ -1,11 +1,11 @@
 -- The thread that moves next.
-use Rattle.std.proofs.Common.{◌≡◌, ◌≢◌, ℕ, zero, suc, ◌+◌, ◌-◌, ◌<◌, ◌≤◌, Bool, true, false, not, ◌&&◌, ◌⊎◌, inl, inr, ⊎_elim, cond, List, [], ◌∷◌, ◌++◌, map, length, find, Option, Some, None, slice_get, refl, ap, sym, ◌∙◌, subst, arith}
+use Rattle.std.proofs.Common.{◌≡◌, ◌≢◌, ℕ, zero, suc, ◌+◌, ◌-◌, ◌<◌, ◌≤◌, Bool, true, false, not, ◌&&◌, ◌⊎◌, inl, inr, ⊎_elim, cond, List, [], ◌∷◌, ◌++◌, map, length, find, Option, Some, None, slice_get, get_or, refl, ap, sym, ◌∙◌, subst, arith}
 use Rattle.std.specs.List.{range_with_len, list_all}
 use Rattle.std.specs.Option.{option_map, option_or}
 use Rattle.std.proofs.lemmas.Bool.{false≢true, cases_lt}
 use Rattle.std.proofs.lemmas.List.FromFn.{length-range_with_len}
 use Rattle.std.proofs.lemmas.List.Folds.{find-append}
-use Rattle.std.proofs.lemmas.Option.{slice_get-map, slice_get_within}
+use Rattle.std.proofs.lemmas.Option.{slice_get-map, slice_get_within, slice_get-get_or}
 use Rattle.tm_base.specs.declared.outcomes.Bar.{Bar}
 use Rattle.tm_replay.specs.Joint.{Joint}
 use Rattle.tm_replay.specs.Bars.{bar_of, bars_of, is_runnable, is_over, is_stuck}
@@ -36,24 +36,24 @@ find-range_none p from (suc n) before =
 -- what was found passes
 pub find-passes : {A : Type 0} (p : A → Bool) (xs : List A) (x : A) → find p xs ≡ Some x → p x ≡ true
 find-passes p [] x h = absurd cc
-find-passes p (y ∷ xs) x h = go (p y) refl h
+find-passes p (y ∷ xs) x h = go (p y) refl h (find-passes p xs x)
   where
-    go : (b : Bool) → p y ≡ b → cond (p y) (Some y) (find p xs) ≡ Some x → p x ≡ true
-    go true e h = let same : y ≡ x = (let s : Some y ≡ Some x = sym (ap (λ b. cond b (Some y) (find p xs)) e) ∙ h in cc) in ap p (sym same) ∙ e
-    go false e h = find-passes p xs x (sym (ap (λ b. cond b (Some y) (find p xs)) e) ∙ h)
+    go : (b : Bool) → p y ≡ b → cond (p y) (Some y) (find p xs) ≡ Some x → (find p xs ≡ Some x → p x ≡ true) → p x ≡ true
+    go true e h later = let same : y ≡ x = (let s : Some y ≡ Some x = sym (ap (λ b. cond b (Some y) (find p xs)) e) ∙ h in cc) in ap p (sym same) ∙ e
+    go false e h later = later (sym (ap (λ b. cond b (Some y) (find p xs)) e) ∙ h)
 
 -- where nothing was found none passes
 pub find-none : {A : Type 0} (p : A → Bool) (xs : List A) → find p xs ≡ None → (i : ℕ) (x : A) → slice_get xs i ≡ Some x → p x ≡ false
 find-none p [] h i x at = absurd cc
-find-none p (y ∷ xs) h i x at = go (p y) refl
+find-none p (y ∷ xs) h i x at = go (p y) refl (λ later k there. find-none p xs later k x there)
   where
-    go : (b : Bool) → p y ≡ b → p x ≡ false
-    go true e = absurd (let s : Some y ≡ None = sym (ap (λ b. cond b (Some y) (find p xs)) e) ∙ h in cc)
-    go false e = at_place i at
+    go : (b : Bool) → p y ≡ b → (find p xs ≡ None → (k : ℕ) → slice_get xs k ≡ Some x → p x ≡ false) → p x ≡ false
+    go true e later = absurd (let s : Some y ≡ None = sym (ap (λ b. cond b (Some y) (find p xs)) e) ∙ h in cc)
+    go false e later = at_place i at
       where
         at_place : (k : ℕ) → slice_get (y ∷ xs) k ≡ Some x → p x ≡ false
         at_place zero here = let same : y ≡ x = cc in ap p (sym same) ∙ e
-        at_place (suc k) there = find-none p xs (sym (ap (λ b. cond b (Some y) (find p xs)) e) ∙ h) k x there
+        at_place (suc k) there = later (sym (ap (λ b. cond b (Some y) (find p xs)) e) ∙ h) k there
 
 -- a thread's bar, by its number
 pub runs_at-bar : (bars : List Bar) (t : ℕ) (b : Bar) → 1 ≤ t → slice_get bars (t - 1) ≡ Some b → runs_at bars t ≡ is_runnable b
@@ -97,12 +97,12 @@ all-from_each : (p : Bar → Bool) (bars : List Bar) → ((i : ℕ) (b : Bar) �
 all-from_each p [] each = refl
 all-from_each p (b ∷ bars) each = rw (each 0 b refl) (all-from_each p bars (λ i c at. each (suc i) c at))
 
-none_of_parts : (p : ℕ → Bool) (as bs : List ℕ) → find p (as ++ bs) ≡ None → (find p as ≡ None) × (find p bs ≡ None)
-none_of_parts p as bs h = go (find p as) refl
+none_of_parts : (p : ℕ → Bool) (front back : List ℕ) → find p (front ++ back) ≡ None → (find p front ≡ None) × (find p back ≡ None)
+none_of_parts p front back h = go (find p front) refl
   where
-    go : (o : Option ℕ) → find p as ≡ o → (find p as ≡ None) × (find p bs ≡ None)
-    go None e = (e, sym (ap (λ o. option_or o (find p bs)) e) ∙ sym (find-append p as bs) ∙ h)
-    go (Some t) e = absurd (let s : Some t ≡ None = sym (ap (λ o. option_or o (find p bs)) e) ∙ sym (find-append p as bs) ∙ h in cc)
+    go : (o : Option ℕ) → find p front ≡ o → (find p front ≡ None) × (find p back ≡ None)
+    go None e = (e, sym (ap (λ o. option_or o (find p back)) e) ∙ sym (find-append p front back) ∙ h)
+    go (Some t) e = absurd (let s : Some t ≡ None = sym (ap (λ o. option_or o (find p back)) e) ∙ sym (find-append p front back) ∙ h in cc)
 
 pub none-runs : (bars : List Bar) (last : ℕ) → last ≤ length bars → next_thread bars last ≡ None → list_all (λ b. not (is_runnable b)) bars ≡ true
 none-runs bars last low h = all-from_each (λ b. not (is_runnable b)) bars (λ i b at. ap not (sym (runs_at-bar bars (suc i) b (omega arith) (place i b at)) ∙ idle (suc i) (omega arith) (slice_get_within bars i b at)))
@@ -126,3 +126,23 @@ none-runs bars last low h = all-from_each (λ b. not (is_runnable b)) bars (λ i
 pub some-chosen : (bars : List Bar) (last : ℕ) → last ≤ length bars → is_over bars ≡ false → is_stuck bars ≡ false → next_thread bars last ≢ None
 some-chosen bars last low going free h =
     false≢true (sym free ∙ ap (λ b. not b && list_all (λ c. not (is_runnable c)) bars) going ∙ none-runs bars last low h)
+
+-- the same by the element that indexing reads
+pub runs_at-index : (bars : List Bar) (t : ℕ) (d : Bar) → 1 ≤ t → t ≤ length bars → runs_at bars t ≡ is_runnable (get_or bars (t - 1) d)
+runs_at-index bars t d program known = runs_at-bar bars t (get_or bars (t - 1) d) program (slice_get-get_or bars (t - 1) d (omega (arith, program, known)))
+
+-- the choice is found in one part of the cycle or in the other
+pub next_thread-first : (bars : List Bar) (last t : ℕ) → find (runs_at bars) (range_with_len (last + 1) (length bars + 1 - (last + 1))) ≡ Some t → next_thread bars last ≡ Some t
+next_thread-first bars last t h =
+    let len : length bars + 1 - (last + 1) ≡ length bars - last = omega arith in
+    find-append (runs_at bars) (range_with_len (last + 1) (length bars - last)) (range_with_len 1 last)
+    ∙ ap (λ o. option_or o (find (runs_at bars) (range_with_len 1 last))) (ap (λ n. find (runs_at bars) (range_with_len (last + 1) n)) (sym len) ∙ h)
+
+pub next_thread-second : (bars : List Bar) (last : ℕ) → find (runs_at bars) (range_with_len (last + 1) (length bars + 1 - (last + 1))) ≡ None
+    → next_thread bars last ≡ find (runs_at bars) (range_with_len 1 (last + 1 - 1))
+next_thread-second bars last h =
+    let len : length bars + 1 - (last + 1) ≡ length bars - last = omega arith in
+    let two : last ≡ last + 1 - 1 = omega arith in
+    find-append (runs_at bars) (range_with_len (last + 1) (length bars - last)) (range_with_len 1 last)
+    ∙ ap (λ o. option_or o (find (runs_at bars) (range_with_len 1 last))) (ap (λ n. find (runs_at bars) (range_with_len (last + 1) n)) (sym len) ∙ h)
+    ∙ ap (λ n. find (runs_at bars) (range_with_len 1 n)) two

@@ -6,3 +6,6 @@ pub mod Growing
 pub mod Making
 pub mod Reading
 pub mod Choosing
+pub mod Stopping
+pub mod Moving
+pub mod Turning

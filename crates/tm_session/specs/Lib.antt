@@ -5,3 +5,4 @@ pub mod Pages
 pub mod Sending
 pub mod Scenes
 pub mod Running
+pub mod Sessions

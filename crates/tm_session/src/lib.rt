@@ -6,6 +6,7 @@ mod moves;
 mod objects;
 mod scenes;
 mod seats;
+mod sessions;
 mod turns;
 
 pub use runs::{Finished, alone};

@@ -157,11 +157,20 @@ fn first_runnable(bars: &[Bar], from: u32, to: u32) -> Option<u32>
     ensures { result ≡ find (runs_at bars.now) (range_with_len from (to - from)) }
 {
     for thread in from..to {
-        if is_runnable(bars[thread as usize - 1]) {
+        if runs(bars, thread) {
             return Some(thread);
         }
     }
     None
+}
+
+/// Whether the bars show the thread as runnable.
+fn runs(bars: &[Bar], thread: u32) -> bool
+    requires program { 1 ≤ thread }
+    requires known { thread ≤ length bars.now }
+    ensures { result ≡ runs_at bars.now thread }
+{
+    is_runnable(bars[thread as usize - 1])
 }
 
 /// Whether the thread with this bar hasn't ended, and no call of it waits ungranted.

@@ -1,0 +1,58 @@
+-- One turn after another.
+use Rattle.std.proofs.Common.{◌≡◌, ◌≢◌, ℕ, zero, suc, ◌+◌, ◌-◌, ◌<◌, ◌≤◌, ◌^◌, true, false, List, [], ◌∷◌, ◌++◌, length, Some, slice_get, slice_set, refl, ap, sym, ◌∙◌, subst, arith}
+use Rattle.std.proofs.lemmas.Option.{slice_get_within}
+use Rattle.tm_base.specs.declared.events.Entry.{Entry}
+use Rattle.tm_text.specs.Exercises.{ExerciseView, IsWellFormed}
+use Rattle.tm_replay.specs.Joint.{Joint}
+use Rattle.tm_replay.specs.JointSteps.{JointStep, entered}
+use Rattle.tm_replay.specs.Bars.{bars_of}
+use Rattle.tm_replay.specs.Sound.{IsSoundJoint}
+use Rattle.tm_replay.specs.Work.{IsCounted, work}
+use Rattle.tm_replay.proofs.Soundness.{IsSoundJoint-step}
+use Rattle.tm_replay.proofs.Falling.{work-step}
+use Rattle.tm_replay.proofs.Counted.{IsCounted-step}
+use Rattle.tm_session.specs.declared.turns.Run.{Run}
+use Rattle.tm_session.specs.declared.scenes.Scene.{Scene}
+use Rattle.tm_session.specs.Scenes.{joint_of, IsEarly}
+use Rattle.tm_session.specs.Turns.{Turn, Goes, GoesBy, Moves, Halts, due_stops, next_thread}
+use Rattle.tm_session.specs.Running.{turn_of, MovesOn, AreWaited}
+use Rattle.tm_session.proofs.Stopping.{due-waited, waited-after}
+use Rattle.tm_session.proofs.Choosing.{find-passes, runs-known}
+
+-- a thread that went on, from a run that differs from the old one in its due objects alone
+pub moves : (x : ExerciseView) (limit : ℕ) (p : Turn) (mid new : Run) (e : Entry) → joint_of mid.scene ≡ p.joint → mid.last ≡ p.last → mid.stops.items ≡ [] → MovesOn x limit mid e new → Moves x limit p e (turn_of new)
+moves x limit p mid new e joint last stops m =
+    subst (λ (j : Joint). Moves x limit (record { joint = j; last = p.last; stops = p.stops }) e (turn_of new)) joint
+    (subst (λ (l : ℕ). Moves x limit (record { joint = joint_of mid.scene; last = l; stops = p.stops }) e (turn_of new)) last
+    (record { step = m.step; chosen = m.chosen; limit = m.limit; stops = m.stops ∙ stops; last = m.last }))
+
+-- what holds of a turn of a run
+pub record IsSoundTurn (x : ExerciseView) (p : Turn) : Type 0 where
+  pub sound : IsSoundJoint x p.joint
+  pub last : p.last ≤ length x.programs
+  pub waited : AreWaited p.joint p.stops
+
+-- a turn is a joint step, and leads to a sound turn
+pub turned : (x : ExerciseView) (limit : ℕ) (p q : Turn) (e : Entry) → IsWellFormed x → IsSoundTurn x p → Goes x limit p e q → JointStep x p.joint e q.joint × IsSoundTurn x q
+turned x limit p q e formed sound goes = go (due_stops p) (due-waited p.joint p.stops sound.waited) goes
+  where
+    go : (due : List ℕ) → AreWaited p.joint due → GoesBy x limit p due e q → JointStep x p.joint e q.joint × IsSoundTurn x q
+    go [] waited m = (m.step, record {
+      sound = IsSoundJoint-step x p.joint q.joint e formed sound.sound m.step;
+      last = rw m.last (omega (arith, slice_get_within p.joint.standings e.thread m.step.standing m.step.thread, sound.sound.thread_count));
+      waited = subst (AreWaited q.joint) (sym m.stops) tt;
+    })
+    go (object ∷ stops) waited h = (h.step, record {
+      sound = IsSoundJoint-step x p.joint q.joint e formed sound.sound h.step;
+      last = rw h.last sound.last;
+      waited = subst (AreWaited q.joint) (sym h.stops)
+        (waited-after p.joint q.joint object (entered h.step.spot e h.step.state)
+        (subst (λ (o : ℕ). q.joint.objects ≡ slice_set p.joint.objects o (entered h.step.spot e h.step.state)) h.object h.step.objects) stops waited.1 waited.2);
+    })
+
+-- a turn keeps places and stamps below the number of events, and lowers the work that is left
+pub turn-counts : (x : ExerciseView) (limit n : ℕ) (p q : Turn) (e : Entry) → IsWellFormed x → IsSoundTurn x p → IsCounted n p.joint → Goes x limit p e q
+    → IsCounted (n + 1) q.joint × (work q.joint + 1 ≤ work p.joint)
+turn-counts x limit n p q e formed sound counted goes =
+    let step = (turned x limit p q e formed sound goes).0 in
+    (IsCounted-step x n p.joint q.joint e counted step, work-step x p.joint q.joint e formed sound.sound step)

@@ -1,0 +1,43 @@
+use Rattle.std.proofs.Common.{◌≡◌, ◌∷◌, List, ℕ, true, [], refl, slice_get, sym, ap, ◌∙◌, subst}
+use Rattle.tm_replay.specs.Joint.{Joint}
+use Rattle.tm_replay.specs.Sound.{IsSoundJoint}
+use Rattle.tm_replay.specs.JointSteps.{JointStep}
+use Rattle.tm_replay.specs.Bars.{bars_of, is_stuck, has_waiter}
+use Rattle.tm_base.specs.declared.events.Entry.{Entry}
+use Rattle.tm_session.specs.declared.scenes.Scene.{Scene}
+use Rattle.tm_session.specs.Scenes.{joint_of, IsEarly}
+use Rattle.tm_session.specs.Turns.{Goes, GoesBy, Turn, due_stops}
+use Rattle.tm_session.specs.Running.{turn_of, AreWaited}
+use Rattle.tm_session.proofs.Stopping.{due-waited, none-due}
+use Rattle.tm_session.proofs.Turning.{moves}
+use Rattle.tm_session.proofs.turns.Run.go.Goals as goal
+
+pub halt-requires : goal.halt-requires
+halt-requires c =
+    let x = c.args.exercise.now in
+    let old = joint_of c.args.self.now.scene in
+    let due = rw c.in-Some.is at c.in_ok-object.ensures.due in
+    let same : joint_of c.due.new.self.scene ≡ old = ap joint_of c.in_ok-object.ensures.scene in
+    let waited : AreWaited old (c.in-Some.object ∷ c.due.new.self.stops.items) =
+      subst (AreWaited old) due (due-waited old c.args.self.now.stops.items c.requires.running.waited) in
+    record {
+      formed = c.requires.running.formed;
+      sound = subst (IsSoundJoint x) (sym same) c.requires.running.sound;
+      early = subst IsEarly (sym same) c.requires.running.early;
+      waited = subst (λ (j : Joint). has_waiter (slice_get j.objects c.in-Some.object) ≡ true) (sym same) waited.0;
+    }
+
+pub move_on-requires-clause-free : goal.move_on-requires-clause-free
+move_on-requires-clause-free c =
+    let old = joint_of c.args.self.now.scene in
+    let due = rw c.in-None.is at c.in_ok-object.ensures.due in
+    ap is_stuck c.requires.bars ∙ (none-due c.args.exercise.now old c.args.self.now.stops.items c.requires.running.sound due.0).0
+
+pub returns-in-None : goal.returns-in-None
+returns-in-None c =
+    let x = c.args.exercise.now in
+    let old = joint_of c.args.self.now.scene in
+    let due = rw c.in-None.is at c.in_ok-object.ensures.due in
+    let m = c.move_on.ensures in
+    subst (λ (stops : List ℕ). GoesBy x c.args.limit (turn_of c.args.self.now) stops c.move_on.result (turn_of c.move_on.new.self)) (sym due.0)
+    (moves x c.args.limit (turn_of c.args.self.now) c.due.new.self c.move_on.new.self c.move_on.result (ap joint_of c.in_ok-object.ensures.scene) c.in_ok-object.ensures.last due.1 m)

@@ -1,0 +1,88 @@
+use Rattle.std.proofs.Common.{◌≡◌, ◌≢◌, ◌≤◌, ◌<◌, ◌-◌, ℕ, List, Some, None, length, refl, slice_get, arith, sym, ap, ◌∙◌, subst}
+use Rattle.std.proofs.lemmas.Option.{slice_get_read}
+use Rattle.tm_base.specs.declared.outcomes.Bar.{Bar}
+use Rattle.tm_text.specs.Exercises.{ExerciseView, own_of}
+use Rattle.tm_replay.specs.Joint.{Joint}
+use Rattle.tm_replay.specs.Sound.{IsSoundJoint}
+use Rattle.tm_replay.specs.JointSteps.{MayIn}
+use Rattle.tm_replay.specs.Bars.{bars_of, is_over, is_stuck}
+use Rattle.tm_session.specs.Scenes.{joint_of}
+use Rattle.tm_session.specs.Turns.{next_thread}
+use Rattle.tm_session.proofs.Choosing.{bars-count, some-chosen}
+use Rattle.tm_session.proofs.Moving.{IsChosen, chosen, chosen-goes, chosen-asks, chosen-performs, chosen-step}
+use Rattle.tm_session.proofs.turns.Run.move_on.Goals as goal
+use Rattle.tm_session.proofs.turns.Run.move_on.Goals.{In-Some, After-index}
+
+count : (x : ExerciseView) (j : Joint) (bars : List Bar) → IsSoundJoint x j → bars ≡ bars_of j → length bars ≡ length x.programs
+count x j bars sound same =
+    let len : length bars ≡ length (bars_of j) = ap length same in
+    omega (arith, len, bars-count j, sound.thread_count)
+
+is_chosen : (c : In-Some) → IsChosen c.args.exercise.now (joint_of c.args.self.now.scene) c.requires.running.formed c.requires.running.sound c.in-Some.thread
+is_chosen c =
+    let j = joint_of c.args.self.now.scene in
+    chosen c.args.exercise.now j c.requires.running.formed c.requires.running.sound c.args.self.now.last c.in-Some.thread
+    (ap (λ bars. next_thread bars c.args.self.now.last) (sym c.requires.bars) ∙ sym c.in-Some.ensures)
+
+seat_of : (c : After-index) → c.in-Some.thread < length (joint_of c.args.self.now.scene).standings → slice_get (joint_of c.args.self.now.scene).standings c.in-Some.thread ≡ Some c.index.result.now
+seat_of c within =
+    let j = joint_of c.args.self.now.scene in
+    slice_get_read j.standings (length j.standings) c.in-Some.thread c.index.result.now refl within c.index.ensures
+
+pub next_runnable-requires-clause-few : goal.next_runnable-requires-clause-few
+next_runnable-requires-clause-few c =
+    omega (arith, count c.args.exercise.now (joint_of c.args.self.now.scene) c.args.bars.now c.requires.running.sound c.requires.bars, c.requires.running.formed.few_threads)
+
+pub next_runnable-requires-clause-known : goal.next_runnable-requires-clause-known
+next_runnable-requires-clause-known c =
+    omega (arith, count c.args.exercise.now (joint_of c.args.self.now.scene) c.args.bars.now c.requires.running.sound c.requires.bars, c.requires.running.last)
+
+pub unreachable-requires : goal.unreachable-requires
+unreachable-requires c =
+    let few : c.args.self.now.last ≤ length c.args.bars.now =
+      omega (arith, count c.args.exercise.now (joint_of c.args.self.now.scene) c.args.bars.now c.requires.running.sound c.requires.bars, c.requires.running.last) in
+    some-chosen c.args.bars.now c.args.self.now.last few c.requires.going c.requires.free (sym c.in_default.ensures)
+
+pub own-own-requires-clause-program : goal.own-own-requires-clause-program
+own-own-requires-clause-program c = (is_chosen (goal.at.own-own-requires-clause-program c).In-Some).program
+
+pub own-own-requires-clause-known : goal.own-own-requires-clause-known
+own-own-requires-clause-known c = (is_chosen (goal.at.own-own-requires-clause-known c).In-Some).known
+
+pub index-requires : goal.index-requires
+index-requires c = omega (arith, (is_chosen (goal.at.index-requires c).In-Some).within, c.args.self.now.scene.seats.ok.0)
+
+pub wish-wish-requires-clause-goes_on : goal.wish-wish-requires-clause-goes_on
+wish-wish-requires-clause-goes_on c =
+    let d = (goal.at.wish-wish-requires-clause-goes_on c).After-index in
+    chosen-goes c.args.exercise.now (joint_of c.args.self.now.scene) c.requires.running.formed c.requires.running.sound c.in-Some.thread c.index.result.now
+    (is_chosen (goal.at.wish-wish-requires-clause-goes_on c).In-Some) (seat_of d (is_chosen (goal.at.wish-wish-requires-clause-goes_on c).In-Some).within)
+
+pub wish-wish-requires-clause-asks : goal.wish-wish-requires-clause-asks
+wish-wish-requires-clause-asks c =
+    let d = (goal.at.wish-wish-requires-clause-asks c).After-index in
+    chosen-asks c.args.exercise.now (joint_of c.args.self.now.scene) c.requires.running.formed c.requires.running.sound c.in-Some.thread c.index.result.now
+    (is_chosen (goal.at.wish-wish-requires-clause-asks c).In-Some) (seat_of d (is_chosen (goal.at.wish-wish-requires-clause-asks c).In-Some).within)
+
+pub perform-requires : goal.perform-requires
+perform-requires c =
+    let d = (goal.at.perform-requires c).After-index in
+    chosen-performs c.args.exercise.now (joint_of c.args.self.now.scene) c.requires.running.formed c.requires.running.sound c.in-Some.thread c.index.result.now
+    (is_chosen (goal.at.perform-requires c).In-Some) (seat_of d (is_chosen (goal.at.perform-requires c).In-Some).within) c.wish-wish.result
+    (subst (λ (own : ℕ). MayIn own c.index.result.now.phase c.index.result.now.rest c.wish-wish.result.object c.wish-wish.result.op) c.own-own.ensures c.wish-wish.ensures.may)
+    c.requires.running.early
+
+pub returns : goal.returns
+returns c =
+    let d = (goal.at.returns c).After-index in
+    let moved = chosen-step c.args.exercise.now (joint_of c.args.self.now.scene) c.requires.running.formed c.requires.running.sound c.in-Some.thread c.index.result.now
+        (is_chosen (goal.at.returns c).In-Some) (seat_of d (is_chosen (goal.at.returns c).In-Some).within) c.wish-wish.result
+        (subst (λ (own : ℕ). MayIn own c.index.result.now.phase c.index.result.now.rest c.wish-wish.result.object c.wish-wish.result.op) c.own-own.ensures c.wish-wish.ensures.may)
+        (joint_of c.perform.new.self) c.perform.result c.perform.ensures c.args.limit c.wish-wish.ensures.limit in
+    record {
+      step = moved.0;
+      chosen = ap (λ bars. next_thread bars c.args.self.now.last) (sym c.requires.bars) ∙ sym c.in-Some.ensures ∙ ap Some (sym c.perform.ensures.by);
+      limit = moved.1;
+      stops = refl;
+      last = sym c.perform.ensures.by;
+    }

@@ -1,0 +1,11 @@
+use Rattle.std.proofs.Common.{◌≡◌, ◌+◌, ◌-◌, length, find, sym, ap, ◌∙◌}
+use Rattle.std.specs.List.{range_with_len}
+use Rattle.tm_session.specs.Turns.{runs_at}
+use Rattle.tm_session.proofs.Choosing.{next_thread-first, next_thread-second}
+use Rattle.tm_session.proofs.turns.next_runnable.Goals as goal
+
+pub returns-in-Some : goal.returns-in-Some
+returns-in-Some c = sym (next_thread-first c.args.bars.now c.args.last c.in-Some.thread (sym c.in-Some.ensures))
+
+pub returns-in-None : goal.returns-in-None
+returns-in-None c = c.first_runnable-in-None.ensures ∙ sym (next_thread-second c.args.bars.now c.args.last (sym c.in-None.ensures))

@@ -1,0 +1,35 @@
+-- A run that writes its rows, as the session keeps it.
+use Rattle.std.specs.Prelude.{◌≡◌, ℕ, ◌+◌, ◌≤◌, List, length, Option}
+use Rattle.tm_base.specs.declared.events.Entry.{Entry}
+use Rattle.tm_text.specs.Exercises.{ExerciseView, IsWellFormed}
+use Rattle.tm_replay.specs.Bars.{bars_of}
+use Rattle.tm_replay.specs.Work.{IsCounted, work}
+use Rattle.tm_replay.specs.Sound.{IsSoundJoint}
+use Rattle.tm_session.specs.declared.sessions.Session.{Session}
+use Rattle.tm_session.specs.Scenes.{joint_of}
+use Rattle.tm_session.specs.Turns.{BeginsAlone}
+use Rattle.tm_session.specs.Pages.{Page, AreRows}
+use Rattle.tm_session.specs.Running.{turn_of, AreWaited}
+use Rattle.tm_session.specs.Sending.{IsSent}
+
+-- The session is under way: its joint state is sound, its places and stamps are at most the number of
+-- events, the work that is left bounds what is still to come, the bars are those of the joint state, and
+-- the events so far are the first ones of the alone run.
+pub record IsUnderWay (x : ExerciseView) (most : ℕ) (s : Session) : Type 0 where
+  pub formed : IsWellFormed x
+  pub sound : IsSoundJoint x (joint_of s.run.scene)
+  pub last : s.run.last ≤ length x.programs
+  pub waited : AreWaited (joint_of s.run.scene) s.run.stops.items
+  pub counted : IsCounted (length s.shown.items) (joint_of s.run.scene)
+  pub bounded : length s.shown.items + work (joint_of s.run.scene) ≤ 1000000
+  pub bars : s.bars.items ≡ bars_of (joint_of s.run.scene)
+  pub begins : BeginsAlone x most s.shown.items (turn_of s.run)
+
+-- The rows of the events so far were sent to the sink, whose counts of faults and bytes these are at the
+-- start and now.
+pub record HasSent (x : ExerciseView) (s : Session) (before now : ℕ) (old new : Option (List ℕ)) : Type 0 where
+  pub page : Page
+  pub rows : AreRows x s.shown.items page
+  pub same : page.joint ≡ joint_of s.run.scene
+  pub count : page.count ≡ length s.shown.items
+  pub sent : IsSent s.failed before now old new page.rows

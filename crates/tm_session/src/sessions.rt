@@ -1,0 +1,83 @@
+ghost use Rattle.std.specs.Prelude.{◌≡◌, ◌≤◌, ◌<◌, ◌++◌, ℕ, List, Option, IfOk, OnOk, OnErr, false};
+ghost use Rattle.tm_text.specs.Exercises.{IsWellFormed};
+ghost use Rattle.tm_replay.specs.Bars.{bars_of, is_over};
+ghost use Rattle.tm_replay.specs.Work.{work};
+ghost use Rattle.tm_session.specs.Scenes.{joint_of};
+ghost use Rattle.tm_session.specs.Sessions.{IsUnderWay, HasSent};
+ghost use Rattle.tm_session.specs.Sending.{IsSent};
+
+use std::alloc::Global;
+
+use tm_base::{Bar, Entry, NoMemory};
+use tm_outside::{Sink, write_all};
+use tm_text::Exercise;
+use tm_timeline::row;
+
+use crate::turns::Run;
+
+/// A run that writes its rows: where it stands, the bars now, its events, and whether a write failed.
+#[derive(Drop)]
+pub struct Session {
+    pub run: Run,
+    pub bars: Vec<Bar>,
+    pub shown: Vec<Entry>,
+    pub failed: bool,
+}
+
+impl Session {
+    /// Nothing has happened yet, and nothing was written.
+    pub fn make(alloc: Global, exercise: &Exercise) -> Result<Session, NoMemory>
+        ensures under_way { (most : ℕ) → IfOk result (λ session. IsUnderWay exercise.now most session) }
+        ensures sent { IfOk result (λ session. (count : ℕ) (bytes : Option (List ℕ)) → HasSent exercise.now session count count bytes bytes) }
+    {
+        let _threads = exercise.threads();
+        let run = Run::make(alloc, exercise)?;
+        let bars = run.scene.bars(alloc, exercise)?;
+        Ok(Session {
+            run,
+            bars,
+            shown: Vec::new(alloc),
+            failed: false,
+        })
+    }
+
+    /// Makes the next event, and writes its row where no write has failed. A refusal writes nothing.
+    pub fn turn<K: Sink>(
+        &mut self,
+        alloc: Global,
+        exercise: &Exercise,
+        sink: &mut K,
+        limit: u32,
+    ) -> Result<(), NoMemory>
+        requires under_way { IsUnderWay exercise.now limit self.old }
+        requires going { is_over self.old.bars.items ≡ false }
+        ensures under_way { OnOk result (IsUnderWay exercise.now limit self.new) }
+        ensures falls { OnOk result (work (joint_of self.new.run.scene) < work (joint_of self.old.run.scene)) }
+        ensures sent { OnOk result ((before : ℕ) (old : Option (List ℕ))
+            → HasSent exercise.now self.old before (K.fault_count sink.old) old (K.written sink.old)
+            → HasSent exercise.now self.new before (K.fault_count sink.new) old (K.written sink.new)) }
+        ensures kept { OnErr result (K.written sink.new ≡ K.written sink.old) }
+        ensures never_falls { K.fault_count sink.old ≤ K.fault_count sink.new }
+    {
+        let entry = self.run.go(alloc, exercise, self.bars.as_slice(), limit)?;
+        self.shown.push(entry)?;
+        self.bars = self.run.scene.bars(alloc, exercise)?;
+        let count = self.shown.len() as u64;
+        let line = row(alloc, exercise, count, &entry, self.bars.as_slice())?;
+        self.failed = send(sink, self.failed, line.as_slice());
+        Ok(())
+    }
+}
+
+/// Writes a line where no write has failed, and answers whether one has now.
+pub fn send<K: Sink>(sink: &mut K, failed: bool, line: &[u8]) -> bool
+    ensures sent { (before : ℕ) (old : Option (List ℕ)) (bytes : List ℕ)
+        → IsSent failed before (K.fault_count sink.old) old (K.written sink.old) bytes
+        → IsSent result before (K.fault_count sink.new) old (K.written sink.new) (bytes ++ line.now) }
+    ensures never_falls { K.fault_count sink.old ≤ K.fault_count sink.new }
+{
+    if failed {
+        return true;
+    }
+    write_all(sink, line).is_err()
+}
