@@ -9,3 +9,4 @@ pub mod Choosing
 pub mod Stopping
 pub mod Moving
 pub mod Turning
+pub mod Rowing
