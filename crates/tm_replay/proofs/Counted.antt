@@ -23,18 +23,18 @@ IsCounted-step x n j k e counted step =
           let h' : slice_get (slice_set j.standings e.thread (stepped s e)) t ≡ Some r = subst (λ (l : List Standing). slice_get l t ≡ Some r) step.standings h in
           ⊎_elim
           (λ (same : (t ≡ e.thread) × (r ≡ stepped s e)).
-            subst (λ (u : Standing). (u.next ≤ n + 1 + 1) × (u.stamp ≤ n + 1) × (u.made ≤ n + 1)) (sym same.1)
-            (omega (arith, step.place, old.0), omega (arith, step.stamp, old.1, was.1), omega (arith, old.2, at_most_one (is_call e.op))))
+          subst (λ (u : Standing). (u.next ≤ n + 1 + 1) × (u.stamp ≤ n + 1) × (u.made ≤ n + 1)) (sym same.1)
+          (omega (arith, step.place, old.0), omega (arith, step.stamp, old.1, was.1), omega (arith, old.2, at_most_one (is_call e.op))))
           (λ (other : (t ≢ e.thread) × (slice_get j.standings t ≡ Some r)).
-            let c = counted.standings t r other.1 in (omega (arith, c.0), omega (arith, c.1), omega (arith, c.2)))
+          let c = counted.standings t r other.1 in (omega (arith, c.0), omega (arith, c.1), omega (arith, c.2)))
           (slice_get-set_cases j.standings e.thread t (stepped s e) r h');
       objects = λ o c h.
           let h' : slice_get (slice_set j.objects e.object (entered b e step.state)) o ≡ Some c = subst (λ (l : List Place). slice_get l o ≡ Some c) step.objects h in
           ⊎_elim
           (λ (same : (o ≡ e.object) × (c ≡ entered b e step.state)).
-            subst (λ (u : Place). (u.at ≤ n + 1) × (u.stamp ≤ n + 1)) (sym same.1)
-            (omega (arith, step.at, was.0), omega (arith, step.stamp, old.1, was.1)))
+          subst (λ (u : Place). (u.at ≤ n + 1) × (u.stamp ≤ n + 1)) (sym same.1)
+          (omega (arith, step.at, was.0), omega (arith, step.stamp, old.1, was.1)))
           (λ (other : (o ≢ e.object) × (slice_get j.objects o ≡ Some c)).
-            let d = counted.objects o c other.1 in (omega (arith, d.0), omega (arith, d.1)))
+          let d = counted.objects o c other.1 in (omega (arith, d.0), omega (arith, d.1)))
           (slice_get-set_cases j.objects e.object o (entered b e step.state) c h');
     }

@@ -13,6 +13,7 @@ use Rattle.tm_base.specs.Histories.{Lawful}
 use Rattle.tm_laws.specs.Counts.{is_wait}
 use Rattle.tm_laws.specs.Tidy.{Moves, is_stop}
 use Rattle.tm_laws.specs.ThreadObjects.{is_end}
+use Rattle.tm_laws.proofs.Counting.{grant-plain}
 use Rattle.tm_text.specs.declared.exercises.Statement.{Statement}
 use Rattle.tm_text.specs.Exercises.{ExerciseView, IsWellFormed, own_of}
 use Rattle.tm_text.specs.Programs.{Rest, answered, asked_of, left_after}
@@ -112,7 +113,7 @@ module _ (x : ExerciseView) (j k : Joint) (e : Entry) (formed : IsWellFormed x) 
   final : e.op ≡ op.Resume → is_wait e.reply ≡ false
   final b =
       let resumes' = subst (λ (o : Op). Lawful spot.held e.thread o e.reply step.state) b step.lawful in
-      (sound.objects e.object spot step.object).sound.tidy.final e.thread e.reply resumes'.granted
+      grant-plain e.reply ((sound.objects e.object spot step.object).sound.tidy.final e.thread e.reply resumes'.granted)
 
   pub work-step : work k + 1 ≤ work j
   work-step = ⊎_elim main_case plain_case (bool_cases (is_main seat.phase))
@@ -128,15 +129,16 @@ module _ (x : ExerciseView) (j k : Joint) (e : Entry) (formed : IsWellFormed x) 
           let old : work_of seat ≡ 0 = ap (λ p. work_in p seat.rest.left seat.rest.last) is in
           let new : work_of (stepped seat e) ≡ 0 = ap (λ p. work_in p (stepped seat e).rest.left (stepped seat e).rest.last) is' in
           omega (arith, threads, objects, before, now, old, new)
+
       plain_case : is_main seat.phase ≡ false → work k + 1 ≤ work j
       plain_case plain =
           let does = step-does x j k e formed sound step plain in
           let became = step-became x j k e formed sound step plain in
           let stopped : is_stop e.op ≡ false = step-after x j k e formed sound step plain in
           let same : stop_of (entered spot e step.state) ≡ stop_of spot =
-              ap (λ b. if b then 0 else 1) (moved.stopped ∙ ap (λ b. b || spot.held.state.stopped) stopped) in
+          ap (λ b. if b then 0 else 1) (moved.stopped ∙ ap (λ b. b || spot.held.state.stopped) stopped) in
           let is : phase_after seat.phase e ≡ phase_by e.op e.reply e.object = (step-stands x j k e formed sound step).1 plain in
           let less = falls (own_of x.objects e.thread) seat.phase seat.rest e.object e.op e.reply (step-stands x j k e formed sound step).0 final does became in
           let new : work_of (stepped seat e) ≡ work_in (phase_by e.op e.reply e.object) (rest_by e.op e.reply seat.rest).left (rest_by e.op e.reply seat.rest).last =
-              ap (λ p. work_in p (rest_by e.op e.reply seat.rest).left (rest_by e.op e.reply seat.rest).last) is in
+          ap (λ p. work_in p (rest_by e.op e.reply seat.rest).left (rest_by e.op e.reply seat.rest).last) is in
           omega (arith, threads, objects, same, new, less)

@@ -3,3 +3,4 @@ pub mod Counted
 pub mod Moves
 pub mod Soundness
 pub mod Falling
+pub mod Starts

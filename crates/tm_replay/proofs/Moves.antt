@@ -76,7 +76,7 @@ pub asked-well_formed : (x : ExerciseView) → IsWellFormed x → (t done : ℕ)
 asked-well_formed x h t done left e object o asked =
     let first : slice_get left 0 ≡ Some (statement.Call object o) = first_of_left left object o asked in
     let there : slice_get (program_of x t) (done + 0) ≡ Some (statement.Call object o) =
-      sym (slice_get-drop (program_of x t) done 0) ∙ ap (λ l. slice_get l 0) (sym e) ∙ first in
+    sym (slice_get-drop (program_of x t) done 0) ∙ ap (λ l. slice_get l 0) (sym e) ∙ first in
     asked-statement x object o (h.statements t (done + 0) (statement.Call object o) there)
 
 -- what an operation and its reply make of the thread

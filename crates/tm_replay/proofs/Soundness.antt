@@ -123,6 +123,7 @@ module _ (x : ExerciseView) (j k : Joint) (e : Entry) (formed : IsWellFormed x) 
             answered = subst (λ (p : Phase). IsAnswered p rest'.last) (sym is) tt;
             among = subst (λ (p : Phase). IsAmong p (length x.objects)) (sym is) tt;
           }
+
       plain_case : is_main seat.phase ≡ false → IsStanding x e.thread (stepped seat e)
       plain_case plain = go (became plain)
         where
@@ -202,7 +203,7 @@ module _ (x : ExerciseView) (j k : Joint) (e : Entry) (formed : IsWellFormed x) 
       go : Becomes e.op e.reply e.object seat.rest → is_wait e.reply ≡ waits_at after e.object
       go (finished cut c q r) =
           let over : is_wait e.reply ≡ false = end-answers spot.held e.thread cut e.reply step.state
-              (subst (λ (o : Op). Lawful spot.held e.thread o e.reply step.state) c step.lawful) in
+          (subst (λ (o : Op). Lawful spot.held e.thread o e.reply step.state) c step.lawful) in
           over ∙ sym (ap (λ p. waits_at p e.object) (by_phase plain ∙ q))
       go (waiting w n q r) = w ∙ sym (eq-eqb e.object e.object refl) ∙ sym (ap (λ p. waits_at p e.object) (by_phase plain ∙ q))
       go (freed w n q r) = w ∙ sym (ap (λ p. waits_at p e.object) (by_phase plain ∙ q))
@@ -213,11 +214,13 @@ module _ (x : ExerciseView) (j k : Joint) (e : Entry) (formed : IsWellFormed x) 
     where
       apart : (e.object == o) ≡ false
       apart = ne_eqb e.object o (λ same. ne (sym same))
+
       before : Does (own_of x.objects e.thread) seat.phase seat.rest e.object e.op → waits_at seat.phase o ≡ false
       before (begins p a b) = ap (λ q. waits_at q o) p
       before (ends p a cut b) = ap (λ q. waits_at q o) p
       before (calls p asked) = ap (λ q. waits_at q o) p
       before (resumes p b) = ap (λ q. waits_at q o) p ∙ apart
+
       later : Becomes e.op e.reply e.object seat.rest → waits_at after o ≡ false
       later (finished cut c q r) = ap (λ p. waits_at p o) (by_phase plain ∙ q)
       later (waiting w n q r) = ap (λ p. waits_at p o) (by_phase plain ∙ q) ∙ apart
@@ -284,7 +287,7 @@ module _ (x : ExerciseView) (j k : Joint) (e : Entry) (formed : IsWellFormed x) 
   life_here : 1 ≤ e.thread → own_of x.objects e.thread ≡ e.object → Lives step.state.own after
   life_here acts own =
       let was : Lives spot.held.state.own seat.phase =
-          sound.life e.thread seat spot acts step.thread (subst (λ (o : ℕ). slice_get j.objects o ≡ Some spot) (sym own) step.object) in
+      sound.life e.thread seat spot acts step.thread (subst (λ (o : ℕ). slice_get j.objects o ≡ Some spot) (sym own) step.object) in
       let now = lived (plain_thread acts) in
       (noted.begun ∙ ap (λ b. is_begin e.op || b) was.0 ∙ sym now.0, noted.ended ∙ ap (λ b. is_end e.op || b) was.1 ∙ sym now.1)
 
@@ -294,36 +297,42 @@ module _ (x : ExerciseView) (j k : Joint) (e : Entry) (formed : IsWellFormed x) 
     where
       main_case : is_main seat.phase ≡ true → (is_begin e.op ≡ false) × (is_end e.op ≡ false)
       main_case main = (ap is_begin (stops main), ap is_end (stops main))
+
       acting : is_main seat.phase ≡ false → 1 ≤ e.thread
       acting plain = ⊎_elim
           (λ (zero' : e.thread ≡ 0). absurd (false≢true (sym plain ∙ stands.main ∙ ap (λ t. t == 0) zero')))
           (λ (ne : e.thread ≢ 0). omega (arith, ne)) (cases_eq e.thread 0)
+
       plain_case : is_main seat.phase ≡ false → (is_begin e.op ≡ false) × (is_end e.op ≡ false)
-      plain_case plain =
-          (⊎_elim (λ (y : is_begin e.op ≡ true). absurd (away (acting plain) (own_only plain (inl y)))) (λ (n : is_begin e.op ≡ false). n) (bool_cases (is_begin e.op)),
-            ⊎_elim (λ (y : is_end e.op ≡ true). absurd (away (acting plain) (own_only plain (inr y)))) (λ (n : is_end e.op ≡ false). n) (bool_cases (is_end e.op)))
+      plain_case plain = (
+        ⊎_elim (λ (y : is_begin e.op ≡ true). absurd (away (acting plain) (own_only plain (inl y)))) (λ (n : is_begin e.op ≡ false). n) (bool_cases (is_begin e.op)),
+        ⊎_elim (λ (y : is_end e.op ≡ true). absurd (away (acting plain) (own_only plain (inr y)))) (λ (n : is_end e.op ≡ false). n) (bool_cases (is_end e.op)),
+      )
 
   life_after : (t : ℕ) (r : Standing) (c : Place) → 1 ≤ t → TheSeat t r → TheSpot (own_of x.objects t) c → Lives c.held.state.own r.phase
   life_after t r c h (inl mine) (inl here) =
       let acts : 1 ≤ e.thread = subst (λ (u : ℕ). 1 ≤ u) mine.0 h in
       let own : own_of x.objects e.thread ≡ e.object = sym (ap (own_of x.objects) mine.0) ∙ here.0 in
-      let lives = life_here acts own in
-      (ap (λ b. has_begun b.held.state.own) here.1 ∙ lives.0 ∙ sym (ap (λ s. is_begun s.phase) mine.1),
-        ap (λ b. has_ended b.held.state.own) here.1 ∙ lives.1 ∙ sym (ap (λ s. is_past s.phase) mine.1))
+      let lives = life_here acts own in (
+        ap (λ b. has_begun b.held.state.own) here.1 ∙ lives.0 ∙ sym (ap (λ s. is_begun s.phase) mine.1),
+        ap (λ b. has_ended b.held.state.own) here.1 ∙ lives.1 ∙ sym (ap (λ s. is_past s.phase) mine.1),
+      )
   life_after t r c h (inl mine) (inr here) =
       let acts : 1 ≤ e.thread = subst (λ (u : ℕ). 1 ≤ u) mine.0 h in
       let away : own_of x.objects e.thread ≢ e.object = λ same. here.0 (ap (own_of x.objects) mine.0 ∙ same) in
       let none = lifeless (λ _ same. away (sym same)) in
       let now = lived (plain_thread acts) in
       let was : Lives c.held.state.own seat.phase =
-          sound.life e.thread seat c acts step.thread (subst (λ (u : ℕ). slice_get j.objects (own_of x.objects u) ≡ Some c) mine.0 here.1) in
-      (was.0 ∙ sym (now.0 ∙ ap (λ b. b || is_begun seat.phase) none.0) ∙ sym (ap (λ s. is_begun s.phase) mine.1),
-        was.1 ∙ sym (now.1 ∙ ap (λ b. b || is_past seat.phase) none.1) ∙ sym (ap (λ s. is_past s.phase) mine.1))
+      sound.life e.thread seat c acts step.thread (subst (λ (u : ℕ). slice_get j.objects (own_of x.objects u) ≡ Some c) mine.0 here.1) in (
+        was.0 ∙ sym (now.0 ∙ ap (λ b. b || is_begun seat.phase) none.0) ∙ sym (ap (λ s. is_begun s.phase) mine.1),
+        was.1 ∙ sym (now.1 ∙ ap (λ b. b || is_past seat.phase) none.1) ∙ sym (ap (λ s. is_past s.phase) mine.1),
+      )
   life_after t r c h (inr mine) (inl here) =
       let was : Lives spot.held.state.own r.phase = sound.life t r spot h mine.1 (subst (λ (o : ℕ). slice_get j.objects o ≡ Some spot) (sym here.0) step.object) in
-      let none = lifeless (λ acts same. mine.0 (owns_apart t h (known t r mine.1) acts (here.0 ∙ same))) in
-      (ap (λ b. has_begun b.held.state.own) here.1 ∙ noted.begun ∙ ap (λ b. b || has_begun spot.held.state.own) none.0 ∙ was.0,
-        ap (λ b. has_ended b.held.state.own) here.1 ∙ noted.ended ∙ ap (λ b. b || has_ended spot.held.state.own) none.1 ∙ was.1)
+      let none = lifeless (λ acts same. mine.0 (owns_apart t h (known t r mine.1) acts (here.0 ∙ same))) in (
+        ap (λ b. has_begun b.held.state.own) here.1 ∙ noted.begun ∙ ap (λ b. b || has_begun spot.held.state.own) none.0 ∙ was.0,
+        ap (λ b. has_ended b.held.state.own) here.1 ∙ noted.ended ∙ ap (λ b. b || has_ended spot.held.state.own) none.1 ∙ was.1,
+      )
   life_after t r c h (inr mine) (inr here) = sound.life t r c h mine.1 here.1
 
   placed_after : (o : ℕ) (c : Place) → TheSpot o c → IsPlaced x o c
