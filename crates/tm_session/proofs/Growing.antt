@@ -35,3 +35,7 @@ pub range_known : (a n k t : ℕ) → slice_get (range_with_len a n) k ≡ Some 
 range_known a zero k t h = absurd cc
 range_known a (suc n) zero t h = let e : a ≡ t = cc in (omega (arith, e), omega (arith, e))
 range_known a (suc n) (suc k) t h = let r = range_known (a + 1) n k t h in (omega (arith, r.0), omega (arith, r.1))
+
+-- what a filter keeps of a range and of the number after it
+pub filter-range_next : (p : ℕ → Bool) (a n : ℕ) → filter p (range_with_len a (n + 1)) ≡ filter p (range_with_len a n) ++ (if p (a + n) then (a + n) ∷ [] else [])
+filter-range_next p a n = ap (filter p) (range_more a n) ∙ filter-append p (range_with_len a n) ((a + n) ∷ [])

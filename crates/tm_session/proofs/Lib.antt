@@ -10,3 +10,4 @@ pub mod Stopping
 pub mod Moving
 pub mod Turning
 pub mod Rowing
+pub mod Ending

@@ -6,3 +6,4 @@ pub mod Sending
 pub mod Scenes
 pub mod Running
 pub mod Sessions
+pub mod Cuts

@@ -11,6 +11,9 @@ use tm_base::{End, Entries, NoMemory, Sequence};
 use tm_outside::Sink;
 use tm_text::Exercise;
 
+use crate::sessions::Session;
+use crate::turns::is_over;
+
 /// How many calls a thread may make.
 pub const CALLS: u32 = 1000;
 
@@ -44,8 +47,9 @@ pub fn alone<K: Sink>(
         × AppendsPrefix (K.written sink.old) (K.written sink.new) bytes) }
     ensures never_falls { K.fault_count sink.old ≤ K.fault_count sink.new }
 {
-    let _alloc = alloc;
-    let _exercise = exercise;
-    let _faults = sink.faults();
-    Err(NoMemory)
+    let mut session = Session::make(alloc, exercise)?;
+    while !is_over(session.bars.as_slice()) {
+        session.turn(alloc, exercise, sink, CALLS)?;
+    }
+    session.finish(alloc, exercise, sink)
 }

@@ -1,5 +1,8 @@
-ghost use Rattle.std.specs.Prelude.{◌≡◌, ◌≤◌, ◌<◌, ◌++◌, ℕ, List, Option, IfOk, OnOk, OnErr, false};
+ghost use Rattle.std.specs.Prelude.{◌≡◌, ◌≤◌, ◌<◌, ◌++◌, ℕ, List, Option, IfOk, OnOk, OnErr, false, length};
 ghost use Rattle.tm_text.specs.Exercises.{IsWellFormed};
+ghost use Rattle.tm_timeline.specs.Rows.{last_line_of};
+ghost use Rattle.tm_replay.specs.Sound.{IsSoundJoint};
+ghost use Rattle.tm_replay.specs.Ends.{end_of, named_of};
 ghost use Rattle.tm_replay.specs.Bars.{bars_of, is_over};
 ghost use Rattle.tm_replay.specs.Work.{work};
 ghost use Rattle.tm_session.specs.Scenes.{joint_of};
@@ -8,11 +11,13 @@ ghost use Rattle.tm_session.specs.Sending.{IsSent};
 
 use std::alloc::Global;
 
-use tm_base::{Bar, Entry, NoMemory};
+use tm_base::{Bar, Entries, Entry, NoMemory, Sequence};
 use tm_outside::{Sink, write_all};
 use tm_text::Exercise;
-use tm_timeline::row;
+use tm_timeline::{last_line, row};
 
+use crate::endings::Ending;
+use crate::runs::Finished;
 use crate::turns::Run;
 
 /// A run that writes its rows: where it stands, the bars now, its events, and whether a write failed.
@@ -66,6 +71,36 @@ impl Session {
         let line = row(alloc, exercise, count, &entry, self.bars.as_slice())?;
         self.failed = send(sink, self.failed, line.as_slice());
         Ok(())
+    }
+
+    /// Writes the last line of a run that is over, where no write has failed. A refusal writes nothing.
+    pub fn finish<K: Sink>(
+        self,
+        alloc: Global,
+        exercise: &Exercise,
+        sink: &mut K,
+    ) -> Result<Finished, NoMemory>
+        requires sound { IsSoundJoint exercise.now (joint_of self.run.scene) }
+        ensures end { IfOk result (λ f. f.end ≡ end_of (joint_of self.run.scene)) }
+        ensures cut { IfOk result (λ f. f.cut ≡ named_of (joint_of self.run.scene)) }
+        ensures shown { IfOk result (λ f. f.shown ≡ self.shown.items) }
+        ensures sent { IfOk result (λ f. (before : ℕ) (old : Option (List ℕ)) (rows : List ℕ)
+            → IsSent self.failed before (K.fault_count sink.old) old (K.written sink.old) rows
+            → IsSent f.write_fault before (K.fault_count sink.new) old (K.written sink.new)
+                (rows ++ last_line_of exercise.now f.end (length f.shown) f.cut)) }
+        ensures kept { OnErr result (K.written sink.new ≡ K.written sink.old) }
+        ensures never_falls { K.fault_count sink.old ≤ K.fault_count sink.new }
+    {
+        let Ending { end, named } = Ending::of(alloc, exercise, &self.run.scene)?;
+        let count = self.shown.len() as u64;
+        let line = last_line(alloc, exercise, end, count, named.as_slice())?;
+        let write_fault = send(sink, self.failed, line.as_slice());
+        Ok(Finished {
+            end,
+            cut: Sequence::from_vec(named),
+            shown: Entries::from_vec(self.shown),
+            write_fault,
+        })
     }
 }
 

@@ -1,0 +1,49 @@
+use Rattle.std.proofs.Common.{◌≡◌, ◌≤◌, ◌<◌, ◌+◌, ◌-◌, ℕ, All, append-nil, [], ◌∷◌, ◌++◌, filter, length, Some, slice_get, if◌then◌else◌, Bool, true, false, arith, refl, ap, sym, ◌∙◌, subst}
+use Rattle.std.specs.List.{range_with_len}
+use Rattle.std.proofs.lemmas.List.Elements.{All-filter}
+use Rattle.std.proofs.lemmas.Option.{slice_get_read}
+use Rattle.tm_timeline.specs.Rows.{IsProgramThread}
+use Rattle.tm_replay.specs.Ends.{threads_where}
+use Rattle.tm_session.specs.Scenes.{joint_of}
+use Rattle.tm_session.specs.Cuts.{test_of}
+use Rattle.tm_session.proofs.Growing.{filter-range_next}
+use Rattle.tm_session.proofs.Ending.{programs}
+use Rattle.tm_session.proofs.endings.cut_threads.Goals as goal
+use Rattle.tm_session.proofs.endings.cut_threads.Goals.{After-loop-thread, then-was_cut+in_ok-push, else-was_cut}
+
+pub loop-thread-preserved : goal.loop-thread-preserved
+loop-thread-preserved c =
+    let items = c.args.scene.now.seats.items in
+    let t = c.loop-thread.thread in
+    let p = λ (n : ℕ). test_of c.args.cut (slice_get items n) in
+    let last : 1 + (t - 1) ≡ t = omega (arith, c.loop-thread.auto.thread) in
+    let next : t - 1 + 1 ≡ t + 1 - 1 = omega (arith, c.loop-thread.auto.thread) in
+    let found = slice_get_read items (length items) t c.index.result.now refl
+        (omega (arith, c.loop-thread-test.true, c.threads-thread-end.ensures.value, c.requires.thread_count)) c.index.ensures in
+    let test : p t ≡ c.was_cut.result = ap (test_of c.args.cut) found ∙ sym c.was_cut.ensures in
+    let more = sym (ap (λ (n : ℕ). filter p (range_with_len 1 n)) next) ∙ filter-range_next p 1 (t - 1)
+      ∙ ap (λ (n : ℕ). filter p (range_with_len 1 (t - 1)) ++ (if p n then n ∷ [] else [])) last in
+    elim c.if-was_cut.branch [
+      then-was_cut+in_ok-push w ↦
+        ap (λ q. q.items) w.threads-is ∙ w.in_ok-push.ensures.items ∙ ap (λ l. l ++ t ∷ []) c.loop-thread.invariant
+        ∙ sym (more ∙ ap (λ b. filter p (range_with_len 1 (t - 1)) ++ (if b then t ∷ [] else [])) (test ∙ w.if-was_cut.true))
+      | else-was_cut w ↦
+        ap (λ q. q.items) w.threads-is ∙ c.loop-thread.invariant ∙ sym (append-nil (filter p (range_with_len 1 (t - 1))))
+        ∙ sym (more ∙ ap (λ b. filter p (range_with_len 1 (t - 1)) ++ (if b then t ∷ [] else [])) (test ∙ w.if-was_cut.false))
+    ]
+
+whole : (c : After-loop-thread) → c.loop-thread.threads.items ≡ threads_where (test_of c.args.cut) (joint_of c.args.scene.now)
+whole c =
+    let j = joint_of c.args.scene.now in
+    let high : c.loop-thread.thread ≤ c.threads-thread-end.result + 1 = c.loop-thread.auto.thread-end (omega arith) in
+    let count : c.loop-thread.thread - 1 ≡ length j.standings - 1 =
+      omega (arith, c.loop-thread-test.false, high, c.threads-thread-end.ensures.value, c.requires.thread_count) in
+    c.loop-thread.invariant ∙ ap (λ (n : ℕ). filter (λ t. test_of c.args.cut (slice_get j.standings t)) (range_with_len 1 n)) count
+
+pub returns-clause-threads : goal.returns-clause-threads
+returns-clause-threads c = whole (goal.at.returns-clause-threads c).After-loop-thread
+
+pub returns-clause-known : goal.returns-clause-known
+returns-clause-known c =
+    subst (All (IsProgramThread c.args.exercise.now)) (sym (whole (goal.at.returns-clause-known c).After-loop-thread))
+    (programs c.args.exercise.now (joint_of c.args.scene.now) (test_of c.args.cut) c.requires)

@@ -1,0 +1,87 @@
+ghost use Rattle.std.specs.Prelude.{◌≡◌, ◌≤◌, All, IfOk, Some, length};
+ghost use Rattle.tm_timeline.specs.Rows.{IsProgramThread};
+ghost use Rattle.tm_replay.specs.Sound.{IsSoundJoint};
+ghost use Rattle.tm_replay.specs.Ends.{end_of, is_cut, is_cut_by_limit, named_of, threads_where};
+ghost use Rattle.tm_session.specs.Scenes.{joint_of};
+ghost use Rattle.tm_session.specs.Cuts.{test_of};
+
+use std::alloc::Global;
+
+use tm_base::{End, NoMemory};
+use tm_replay::Phase;
+use tm_text::Exercise;
+
+use crate::scenes::Scene;
+use crate::seats::{Seat, is_stopped};
+
+/// What cut a thread short.
+#[derive(Clone, Copy, Debug, PartialEq, Eq)]
+pub enum Cut {
+    /// An object that was stopped, or the limit of calls.
+    Any,
+    /// The limit of calls.
+    ByLimit,
+}
+
+/// How a run ended, and the threads that its last line names, in rising number.
+#[derive(Drop)]
+pub struct Ending {
+    pub end: End,
+    pub named: Vec<u32>,
+}
+
+impl Ending {
+    /// The ending that the scene shows.
+    pub fn of(alloc: Global, exercise: &Exercise, scene: &Scene) -> Result<Ending, NoMemory>
+        requires { IsSoundJoint exercise.now (joint_of scene.now) }
+        ensures end { IfOk result (λ ending. ending.end ≡ end_of (joint_of scene.now)) }
+        ensures named { IfOk result (λ ending. ending.named.items ≡ named_of (joint_of scene.now)) }
+        ensures known { IfOk result (λ ending. All (IsProgramThread exercise.now) ending.named.items) }
+    {
+        let limited = cut_threads(alloc, exercise, scene, Cut::ByLimit)?;
+        if !limited.is_empty() {
+            return Ok(Ending {
+                end: End::Budget,
+                named: limited,
+            });
+        }
+        let cut = cut_threads(alloc, exercise, scene, Cut::Any)?;
+        let end = if cut.is_empty() {
+            End::Done
+        } else {
+            End::Stuck
+        };
+        Ok(Ending { end, named: cut })
+    }
+}
+
+/// The program threads that were cut so, in rising number.
+fn cut_threads(
+    alloc: Global,
+    exercise: &Exercise,
+    scene: &Scene,
+    cut: Cut,
+) -> Result<Vec<u32>, NoMemory>
+    requires { IsSoundJoint exercise.now (joint_of scene.now) }
+    ensures threads { IfOk result (λ threads. threads.items ≡ threads_where (test_of cut) (joint_of scene.now)) }
+    ensures known { IfOk result (λ threads. All (IsProgramThread exercise.now) threads.items) }
+{
+    let mut threads = Vec::new(alloc);
+    for thread in 1..exercise.threads() + 1 {
+        if was_cut(&scene.seats[thread as usize], cut) {
+            threads.push(thread)?;
+        }
+    }
+    Ok(threads)
+}
+
+/// Whether the thread ended so.
+fn was_cut(seat: &Seat, cut: Cut) -> bool
+    ensures { result ≡ test_of cut (Some seat.now) }
+{
+    let ended = matches!(seat.phase(), Phase::Ended { cut: true });
+    match cut {
+        Cut::Any => ended,
+        Cut::ByLimit => ended && !is_stopped(seat.last()),
+    }
+}
