@@ -1,5 +1,5 @@
 -- A turn's event has a row, and keeps the session under way.
-use Rattle.std.proofs.Common.{◌≡◌, ℕ, suc, ◌+◌, ◌<◌, ◌≤◌, Bool, List, [], ◌∷◌, ◌++◌, length, Option, Some, slice_get, refl, ap, sym, ◌∙◌, subst, arith}
+use Rattle.std.proofs.Common.{◌≡◌, ℕ, suc, ◌+◌, ◌<◌, ◌≤◌, Bool, true, false, List, [], ◌∷◌, ◌++◌, length, Option, Some, slice_get, refl, ap, sym, ◌∙◌, subst, arith}
 use Rattle.std.proofs.lemmas.Option.{slice_get_within}
 use Rattle.tm_base.specs.declared.operations.Op.{Op}
 use Rattle.tm_base.specs.declared.replies.Reply.{Reply}
@@ -11,6 +11,8 @@ use Rattle.tm_base.specs.declared.outcomes.Bar.{Bar}
 use Rattle.tm_base.specs.States.{State}
 use Rattle.tm_base.specs.Machines.{Held}
 use Rattle.tm_base.specs.Histories.{Lawful}
+use Rattle.tm_outside.specs.Appending.{AppendsPrefix}
+use Rattle.tm_outside.proofs.Appending.{AppendsPrefix-whole}
 use Rattle.tm_laws.specs.Tidy.{IsSound}
 use Rattle.tm_laws.proofs.Giving.{IsGiver, Lawful-gives}
 use Rattle.tm_laws.proofs.Runs.{Leads-snoc}
@@ -20,7 +22,11 @@ use Rattle.tm_replay.specs.Joint.{Joint}
 use Rattle.tm_replay.specs.JointSteps.{JointStep}
 use Rattle.tm_replay.specs.Bars.{bars_of}
 use Rattle.tm_replay.specs.Sound.{IsSoundJoint}
-use Rattle.tm_session.specs.Pages.{Page, first_page, AddsRow, AreRows}
+use Rattle.tm_session.specs.declared.sessions.Session.{Session}
+use Rattle.tm_session.specs.Pages.{Page, first_page, AddsRow, AreRows, BeginsAloneText}
+use Rattle.tm_session.specs.Running.{turn_of}
+use Rattle.tm_session.specs.Sending.{IsSent}
+use Rattle.tm_session.specs.Sessions.{IsUnderWay, HasSent}
 use Rattle.tm_session.proofs.Choosing.{bars-count}
 
 -- the kinds that a text can have name program threads alone
@@ -60,3 +66,17 @@ pub AreRows-snoc : (x : ExerciseView) (es : List Entry) (e : Entry) (p : Page) (
 AreRows-snoc x es e p k row rows step same =
     let next : Page = record { joint = k; count = p.count + 1; rows = p.rows ++ row } in
     Leads-snoc (AddsRow x) es e (first_page x) p next rows (record { step = step; count = refl; rows = ap (λ (r : List ℕ). p.rows ++ r) same })
+
+-- what was sent begins with a front of the bytes
+IsSent-front : (failed : Bool) (before now : ℕ) (old new : Option (List ℕ)) (bytes : List ℕ) → IsSent failed before now old new bytes → AppendsPrefix old new bytes
+IsSent-front true before now old new bytes sent = sent.1
+IsSent-front false before now old new bytes sent = AppendsPrefix-whole old new bytes sent.1
+
+-- a session under way has written a front of the alone run's first rows
+pub begun-text : (x : ExerciseView) (limit : ℕ) (s : Session) (before now : ℕ) (old new : Option (List ℕ)) → IsUnderWay x limit s → HasSent x s before now old new
+    → (bytes : List ℕ) × BeginsAloneText x limit bytes × AppendsPrefix old new bytes
+begun-text x limit s before now old new way h = (
+  h.page.rows,
+  record { events = s.shown.items; turn = turn_of s.run; run = way.begins; page = h.page; rows = h.rows; text = refl },
+  IsSent-front s.failed before now old new h.page.rows h.sent,
+)

@@ -2,19 +2,21 @@
 use Rattle.std.proofs.Common.{◌≡◌, ◌≢◌, ℕ, zero, suc, ◌+◌, ◌-◌, ◌<◌, ◌≤◌, ◌^◌, true, false, List, [], ◌∷◌, ◌++◌, length, Some, slice_get, slice_set, refl, ap, sym, ◌∙◌, subst, arith}
 use Rattle.std.proofs.lemmas.Option.{slice_get_within}
 use Rattle.tm_base.specs.declared.events.Entry.{Entry}
+use Rattle.tm_base.specs.Runs.{Leads}
 use Rattle.tm_text.specs.Exercises.{ExerciseView, IsWellFormed}
 use Rattle.tm_replay.specs.Joint.{Joint}
-use Rattle.tm_replay.specs.JointSteps.{JointStep, entered}
+use Rattle.tm_replay.specs.JointSteps.{JointStep, IsJointRun, entered}
 use Rattle.tm_replay.specs.Bars.{bars_of}
 use Rattle.tm_replay.specs.Sound.{IsSoundJoint}
 use Rattle.tm_replay.specs.Work.{IsCounted, work}
+use Rattle.tm_replay.proofs.Starts.{IsSoundJoint-start}
 use Rattle.tm_replay.proofs.Soundness.{IsSoundJoint-step}
 use Rattle.tm_replay.proofs.Falling.{work-step}
 use Rattle.tm_replay.proofs.Counted.{IsCounted-step}
 use Rattle.tm_session.specs.declared.turns.Run.{Run}
 use Rattle.tm_session.specs.declared.scenes.Scene.{Scene}
 use Rattle.tm_session.specs.Scenes.{joint_of, IsEarly}
-use Rattle.tm_session.specs.Turns.{Turn, Goes, GoesBy, Moves, Halts, due_stops, next_thread}
+use Rattle.tm_session.specs.Turns.{Turn, first_turn, BeginsAlone, Goes, GoesBy, Moves, Halts, due_stops, next_thread}
 use Rattle.tm_session.specs.Running.{turn_of, MovesOn, AreWaited}
 use Rattle.tm_session.proofs.Stopping.{due-waited, waited-after}
 use Rattle.tm_session.proofs.Choosing.{find-passes, runs-known}
@@ -56,3 +58,14 @@ pub turn-counts : (x : ExerciseView) (limit n : ℕ) (p q : Turn) (e : Entry) �
 turn-counts x limit n p q e formed sound counted goes =
     let step = (turned x limit p q e formed sound goes).0 in
     (IsCounted-step x n p.joint q.joint e counted step, work-step x p.joint q.joint e formed sound.sound step)
+
+-- an alone run's events are a joint run
+turns-legal : (x : ExerciseView) (limit : ℕ) (es : List Entry) (p q : Turn) → IsWellFormed x → IsSoundTurn x p → Leads (Goes x limit) p es q → Leads (JointStep x) p.joint es q.joint
+turns-legal x limit [] p q formed sound run = ap (λ (t : Turn). t.joint) run
+turns-legal x limit (e ∷ es) p q formed sound run =
+    let t = turned x limit p run.0 e formed sound run.1 in
+    (run.0.joint, t.0, turns-legal x limit es run.0 q formed t.1 run.2)
+
+pub alone-legal : (x : ExerciseView) (limit : ℕ) (es : List Entry) (q : Turn) → IsWellFormed x → BeginsAlone x limit es q → IsJointRun x es q.joint
+alone-legal x limit es q formed run =
+    turns-legal x limit es (first_turn x) q formed (record { sound = IsSoundJoint-start x formed; last = omega arith; waited = tt }) run

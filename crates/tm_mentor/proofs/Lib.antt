@@ -1,0 +1,3 @@
+pub mod One
+pub mod Judged
+pub mod Told

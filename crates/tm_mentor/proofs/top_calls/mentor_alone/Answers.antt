@@ -1,0 +1,24 @@
+use Rattle.std.proofs.Common.{[], ◌∷◌, sym, subst, ◌≡◌, ◌↔◌}
+use Rattle.std.specs.List.{Contains}
+use Rattle.std.specs.Option.{IsSomeAnd}
+use Rattle.tm_mentor.specs.declared.outcomes.Outcome.{Outcome}
+use Rattle.tm_mentor.specs.Answers.{statuses, end_status, IsWritten}
+use Rattle.tm_mentor.proofs.Told.{status_by, complete_by, written_by}
+use Rattle.tm_mentor.proofs.top_calls.mentor_alone.Goals as goal
+
+pub returns-clause-statuses : goal.returns-clause-statuses
+returns-clause-statuses g c =
+    let P : Outcome → Type 0 = λ o. Contains statuses o.status in
+    subst P (sym c.of.ensures) (status_by c.carry_out-answer.result)
+
+pub returns-clause-complete : goal.returns-clause-complete
+returns-clause-complete g c =
+    let P : Outcome → Type 0 = λ o. Contains (0 ∷ 6 ∷ 7 ∷ 9 ∷ []) o.status in
+    λ x spelled told no_read no_write.
+    subst P (sym c.of.ensures) (complete_by c.args.words.now _ _ _ _ x c.carry_out-answer.result c.carry_out-answer.ensures.answers spelled told no_read no_write)
+
+pub returns-clause-written : goal.returns-clause-written
+returns-clause-written g c =
+    λ end.
+    let P : Outcome → Type 0 = λ o. (o.status ≡ end_status end) ↔ IsSomeAnd o.finished (IsWritten end) in
+    subst P (sym c.of.ensures) (written_by c.carry_out-answer.result end)

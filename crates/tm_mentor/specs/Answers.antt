@@ -1,0 +1,107 @@
+-- What a command answers, by what happened.
+use Rattle.std.specs.Prelude.{◌≡◌, ℕ, Bool, false, if◌then◌else◌, List, [], ◌∷◌, Some, None, ◌⊎◌, String}
+use Rattle.std.specs.declared.alloc.Global.{Global}
+use Rattle.tm_base.specs.declared.outcomes.End.{End}
+use Rattle.tm_base.specs.declared.outcomes.End.TheVariants.{Done, Stuck, Budget}
+use Rattle.tm_outside.specs.Appending.{AppendsPrefix}
+use Rattle.tm_text.specs.Exercises.{ExerciseView}
+use Rattle.tm_replay.specs.Joint.{Joint}
+use Rattle.tm_replay.specs.JointSteps.{IsJointRun}
+use Rattle.tm_session.specs.declared.runs.Finished.{Finished}
+use Rattle.tm_session.specs.Pages.{IsAloneText, BeginsAloneText}
+use Rattle.tm_session.specs.Sending.{IsSent}
+use Rattle.tm_mentor.specs.declared.refusals.Refusal.{Refusal}
+use Rattle.tm_mentor.specs.declared.answers.Answer.{Answer}
+use Rattle.tm_mentor.specs.declared.answers.Answer.TheVariants.{Refused, Ran, NoMemory}
+use Rattle.tm_mentor.specs.declared.outcomes.Outcome.{Outcome}
+use Rattle.tm_mentor.specs.Refusals.{line_of, status_of}
+use Rattle.tm_mentor.specs.Outside.{Input, Output}
+use Rattle.tm_mentor.specs.Found.{IsCause, IsFound, IsUnknown}
+
+-- All statuses that there are.
+abbrev pub statuses : List ℕ
+statuses = 0 ∷ 2 ∷ 3 ∷ 4 ∷ 5 ∷ 6 ∷ 7 ∷ 9 ∷ []
+
+-- The status of a run whose text was written, by how it ended.
+abbrev pub end_status : End → ℕ
+end_status Done = 0
+end_status Stuck = 6
+end_status Budget = 7
+
+-- A write that failed makes the status 5, whatever it is otherwise.
+abbrev pub unless_failed : Bool → ℕ → ℕ
+unless_failed failed status = if failed then 5 else status
+
+-- The status of a run.
+abbrev pub run_status : Finished → ℕ
+run_status f = unless_failed f.write_fault (end_status f.end)
+
+-- The run ended this way, and its text was written.
+abbrev pub IsWritten : End → Finished → Type 0
+IsWritten end f = (f.write_fault ≡ false) × (f.end ≡ end)
+
+-- The bytes were sent to the sink, or a front of them where a write failed.
+abbrev pub Sends : Bool → Output → Output → List ℕ → Type 0
+Sends failed old new bytes = IsSent failed old.faults new.faults old.written new.written bytes
+
+-- Nothing was run, for the cause that the refusal names. Its line was sent.
+pub record IsRefused (words : List (String Global)) (read read' : Input) (sent sent' : Output) (refusal : Refusal) (failed : Bool) : Type 0 where
+  pub cause : IsCause refusal words read read'
+  pub line : Sends failed sent sent' (line_of refusal)
+
+-- The exercise that was found ran to its end: its events are those of its alone run, with at most 1,000
+-- calls a thread, and a legal run of all objects together. The text of that run was sent.
+pub record Runs (words : List (String Global)) (read read' : Input) (sent sent' : Output) (f : Finished) : Type 0 where
+  pub exercise : ExerciseView
+  pub found : IsFound words read read' exercise
+  pub joint : Joint
+  pub legal : IsJointRun exercise f.shown joint
+  pub bytes : List ℕ
+  pub text : IsAloneText exercise 1000 f.shown f.end f.cut bytes
+  pub whole : Sends f.write_fault sent sent' bytes
+
+-- Memory was wanting in the run of the exercise that was found. A front of its first rows was written.
+pub record RunsShort (words : List (String Global)) (read read' : Input) (sent sent' : Output) : Type 0 where
+  pub exercise : ExerciseView
+  pub found : IsFound words read read' exercise
+  pub bytes : List ℕ
+  pub begins : BeginsAloneText exercise 1000 bytes
+  pub written : AppendsPrefix sent.written sent'.written bytes
+
+-- Memory was wanting before anything was written.
+pub record ReadsShort (words : List (String Global)) (read read' : Input) (sent sent' : Output) : Type 0 where
+  pub unknown : IsUnknown words read read'
+  pub written : sent'.written ≡ sent.written
+  pub steady : sent'.faults ≡ sent.faults
+
+-- Memory was wanting.
+abbrev pub Forgoes : List (String Global) → Input → Input → Output → Output → Type 0
+Forgoes words read read' sent sent' = ReadsShort words read read' sent sent' ⊎ RunsShort words read read' sent sent'
+
+-- What happened, by the answer.
+abbrev pub Answers : List (String Global) → Input → Input → Output → Output → Answer → Type 0
+Answers words read read' sent sent' (Refused refusal failed) = IsRefused words read read' sent sent' refusal failed
+Answers words read read' sent sent' (Ran f) = Runs words read read' sent sent' f
+Answers words read read' sent sent' NoMemory = Forgoes words read read' sent sent'
+
+-- The answer in a status and a run.
+abbrev pub outcome_of : Answer → Outcome
+outcome_of (Refused refusal failed) = record { status = unless_failed failed (status_of refusal); finished = None }
+outcome_of (Ran f) = record { status = run_status f; finished = Some f }
+outcome_of NoMemory = record { status = 9; finished = None }
+
+-- The status is that of a refusal, or 5 where its line could not be written.
+pub record IsTurnedDown (words : List (String Global)) (read read' : Input) (sent sent' : Output) (status : ℕ) : Type 0 where
+  pub refusal : Refusal
+  pub failed : Bool
+  pub refused : IsRefused words read read' sent sent' refusal failed
+  pub same : status ≡ unless_failed failed (status_of refusal)
+
+-- The status is that of a command that memory was wanting for.
+pub record IsForgone (words : List (String Global)) (read read' : Input) (sent sent' : Output) (status : ℕ) : Type 0 where
+  pub short : Forgoes words read read' sent sent'
+  pub same : status ≡ 9
+
+-- No run ended: the command was refused, or memory was wanting.
+abbrev pub RunsNothing : List (String Global) → Input → Input → Output → Output → ℕ → Type 0
+RunsNothing words read read' sent sent' status = IsTurnedDown words read read' sent sent' status ⊎ IsForgone words read read' sent sent' status

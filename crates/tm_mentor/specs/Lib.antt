@@ -1,0 +1,5 @@
+pub mod Words
+pub mod Refusals
+pub mod Outside
+pub mod Found
+pub mod Answers

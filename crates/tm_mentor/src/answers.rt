@@ -1,0 +1,59 @@
+ghost use Rattle.std.specs.Prelude.{◌≡◌, ◌≤◌};
+ghost use Rattle.tm_mentor.specs.Words.{SpellsRun};
+ghost use Rattle.tm_mentor.specs.Refusals.{line_of};
+ghost use Rattle.tm_mentor.specs.Outside.{input_of, output_of};
+ghost use Rattle.tm_mentor.specs.Answers.{Answers, Sends};
+
+use crate::exercises::{Lack, exercise_to_run};
+use crate::refusals::{Refusal, line};
+use std::alloc::Global;
+use tm_outside::{Sink, Source, write_all};
+use tm_session::{Finished, alone};
+
+/// How a command ended.
+#[derive(Debug, Drop)]
+pub(crate) enum Answer {
+    /// Nothing was run, and the line that says why was sent to the sink, which may have failed.
+    Refused { refusal: Refusal, write_fault: bool },
+    /// A run ended.
+    Ran(Finished),
+    /// Memory was wanting.
+    NoMemory,
+}
+
+/// Does what the words say.
+pub(crate) fn carry_out<S: Source, K: Sink>(
+    alloc: Global,
+    words: &[String],
+    source: &mut S,
+    sink: &mut K,
+) -> Answer
+    ensures answers { Answers words.now
+        (input_of S.left S.fault_count source.old) (input_of S.left S.fault_count source.new)
+        (output_of K.written K.fault_count sink.old) (output_of K.written K.fault_count sink.new)
+        result }
+    ensures unread { ¬ SpellsRun words.now → source.new ≡ source.old }
+    ensures source_never_falls { S.fault_count source.old ≤ S.fault_count source.new }
+    ensures sink_never_falls { K.fault_count sink.old ≤ K.fault_count sink.new }
+{
+    match exercise_to_run(alloc, words, source) {
+        Ok(exercise) => match alone(alloc, &exercise, sink) {
+            Ok(finished) => Answer::Ran(finished),
+            Err(_) => Answer::NoMemory,
+        },
+        Err(Lack::Refused(refusal)) => Answer::Refused {
+            refusal,
+            write_fault: fails_at_line(refusal, sink),
+        },
+        Err(Lack::NoMemory) => Answer::NoMemory,
+    }
+}
+
+/// Sends the refusal's line to the sink, and answers whether that failed.
+fn fails_at_line<K: Sink>(refusal: Refusal, sink: &mut K) -> bool
+    ensures sent { Sends result (output_of K.written K.fault_count sink.old)
+        (output_of K.written K.fault_count sink.new) (line_of refusal) }
+    ensures never_falls { K.fault_count sink.old ≤ K.fault_count sink.new }
+{
+    write_all(sink, line(refusal)).is_err()
+}

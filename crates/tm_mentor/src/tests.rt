@@ -1,0 +1,138 @@
+use super::*;
+use std::alloc::Global;
+use std::test::Fail;
+use tm_base::End;
+use tm_outside::{MemorySink, MemorySource};
+
+/// Two threads that take one mutex in turn.
+const PAIR: &str = "mutex m\nthread A\nlock m\nunlock m\nend\nthread B\nlock m\nunlock m\nend\n";
+
+/// The rows of that run, and its last line.
+const PAIR_ROWS: &str = "1 1 A.1 A.1 begin ok [R-]
+2 1 B.1 B.1 begin ok [RR]
+3 2 A.2 m.1 lock ok [RR]
+4 3 B.2 m.2 lock wait [RB]
+5 4 A.3 m.3 unlock gave B [RG]
+6 5 B.3 m.4 resume ok [RR]
+7 5 A.4 A.2 end ok [ER]
+8 6 B.4 m.5 unlock ok [ER]
+9 7 B.5 B.2 end ok [EE]
+done 9
+";
+
+/// A thread that takes one mutex twice.
+const TWICE: &str = "mutex m\nthread A\nlock m\nlock m\nunlock m\nend\n";
+
+const TWICE_ROWS: &str = "1 1 A.1 A.1 begin ok [R]
+2 2 A.2 m.1 lock ok [R]
+3 3 A.3 m.2 lock held [R]
+4 4 A.4 m.3 unlock ok [R]
+5 5 A.5 A.2 end ok [E]
+done 5
+";
+
+/// Two threads that take two mutexes in opposite orders.
+const CROSSED: &str =
+    "mutex f\nmutex g\nthread A\nlock f\nlock g\nunlock g\nunlock f\nend\nthread B\nlock g\nlock f\nunlock f\nunlock g\nend\n";
+
+const CROSSED_ROWS: &str = "1 1 A.1 A.1 begin ok [R-]
+2 1 B.1 B.1 begin ok [RR]
+3 2 A.2 f.1 lock ok [RR]
+4 2 B.2 g.1 lock ok [RR]
+5 3 A.3 g.2 lock wait [BR]
+6 3 B.3 f.2 lock wait [BB]
+7 4 main.1 f.3 stop ok [BG]
+8 5 main.2 g.3 stop ok [GG]
+9 6 A.4 g.4 resume stopped [RG]
+10 5 B.4 f.4 resume stopped [RR]
+11 7 A.5 A.2 end cut [ER]
+12 6 B.5 B.2 end cut [EE]
+stuck 12 A B
+";
+
+/// Runs the command of these words, which spaces part, over memory where these reads and writes fail.
+/// Gives back the outcome and what was written.
+fn command(
+    alloc: Global,
+    words: &str,
+    text: &str,
+    failing_reads: &[u64],
+    failing_writes: &[u64],
+) -> Result<(Outcome, MemorySink), Fail> {
+    let mut spoken = Vec::new(alloc);
+    for word in words.split_whitespace() {
+        spoken.push(String::from_str(alloc, word)?)?;
+    }
+    let mut source = MemorySource::make(alloc, text.as_bytes(), failing_reads)?;
+    let mut sink = MemorySink::make(alloc, 4096, failing_writes)?;
+    let outcome = mentor_alone(alloc, spoken.as_slice(), &mut source, &mut sink);
+    Ok((outcome, sink))
+}
+
+#[test]
+fn exercises_run_to_their_end(rt: HostRuntime) -> Result<(), Fail> {
+    let table = [
+        ("", "done 0\n", 0u8),
+        (PAIR, PAIR_ROWS, 0),
+        (TWICE, TWICE_ROWS, 0),
+        (CROSSED, CROSSED_ROWS, 6),
+    ];
+    for (text, rows, status) in table {
+        let (outcome, sink) = command(rt.alloc(), "run", text, &[], &[])?;
+        assert_eq!(rt; sink.bytes(), rows.as_bytes());
+        assert_eq!(rt; outcome.status, status, "for {text:?}");
+        assert!(rt; outcome.finished.is_some());
+    }
+    Ok(())
+}
+
+#[test]
+fn other_words_are_refused(rt: HostRuntime) -> Result<(), Fail> {
+    for words in ["", "help", "run run"] {
+        let (outcome, sink) = command(rt.alloc(), words, PAIR, &[], &[])?;
+        assert_eq!(rt; sink.bytes(), b"mentor: usage\n".as_slice());
+        assert_eq!(rt; outcome.status, 2);
+        assert!(rt; outcome.finished.is_none());
+    }
+    Ok(())
+}
+
+#[test]
+fn texts_of_no_exercise_are_refused(rt: HostRuntime) -> Result<(), Fail> {
+    let (outcome, sink) = command(rt.alloc(), "run", "mutex", &[], &[])?;
+    assert_eq!(rt; sink.bytes(), b"mentor: text\n".as_slice());
+    assert_eq!(rt; outcome.status, 3);
+    assert!(rt; outcome.finished.is_none());
+    Ok(())
+}
+
+#[test]
+fn a_read_that_fails_is_told(rt: HostRuntime) -> Result<(), Fail> {
+    let (outcome, sink) = command(rt.alloc(), "run", PAIR, &[2], &[])?;
+    assert_eq!(rt; sink.bytes(), b"mentor: read fault\n".as_slice());
+    assert_eq!(rt; outcome.status, 4);
+    assert!(rt; outcome.finished.is_none());
+    Ok(())
+}
+
+#[test]
+fn nothing_is_written_after_a_write_that_fails(rt: HostRuntime) -> Result<(), Fail> {
+    let (outcome, sink) = command(rt.alloc(), "run", PAIR, &[], &[3])?;
+    let rows = "1 1 A.1 A.1 begin ok [R-]\n2 1 B.1 B.1 begin ok [RR]\n";
+    assert_eq!(rt; sink.bytes(), rows.as_bytes());
+    assert_eq!(rt; outcome.status, 5);
+    let finished = outcome.finished.ok_or("no run")?;
+    assert_eq!(rt; finished.end, End::Done);
+    assert_eq!(rt; finished.shown.len(), 9);
+    assert!(rt; finished.write_fault);
+    Ok(())
+}
+
+#[test]
+fn a_line_that_fails_makes_the_status_5(rt: HostRuntime) -> Result<(), Fail> {
+    let (outcome, sink) = command(rt.alloc(), "", PAIR, &[], &[1])?;
+    assert_eq!(rt; sink.bytes(), b"".as_slice());
+    assert_eq!(rt; outcome.status, 5);
+    assert!(rt; outcome.finished.is_none());
+    Ok(())
+}

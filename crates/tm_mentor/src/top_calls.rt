@@ -1,0 +1,76 @@
+ghost use Rattle.std.specs.Prelude.{◌≡◌, ◌↔◌, ℕ, ◌<◌, ◌≤◌, [], ◌∷◌, List, Contains, IfSome, IsSomeAnd, IfNone, MatchOption};
+ghost use Rattle.tm_base.specs.declared.outcomes.End.{End};
+ghost use Rattle.tm_outside.specs.Faults.{Rose};
+ghost use Rattle.tm_outside.specs.Appending.{Appends};
+ghost use Rattle.tm_text.specs.Exercises.{ExerciseView};
+ghost use Rattle.tm_text.specs.Grammar.{IsExercise};
+ghost use Rattle.tm_mentor.specs.declared.refusals.Refusal.{Refusal};
+ghost use Rattle.tm_mentor.specs.Words.{SpellsRun};
+ghost use Rattle.tm_mentor.specs.Refusals.{line_of, status_of};
+ghost use Rattle.tm_mentor.specs.Outside.{input_of, output_of};
+ghost use Rattle.tm_mentor.specs.Found.{IsNoExercise};
+ghost use Rattle.tm_mentor.specs.Answers.{statuses, end_status, run_status, IsWritten, Runs, RunsNothing};
+
+use crate::answers::carry_out;
+use crate::outcomes::Outcome;
+use std::alloc::Global;
+use tm_outside::{Sink, Source};
+
+/// Does what the words say, which are those after the program's name. The one word `run` reads an
+/// exercise of at most 2^20 bytes to its end, and writes the rows of its alone run and the last line.
+/// Where nothing is run it writes a line that says why, unless memory is wanting: `mentor: usage`,
+/// `mentor: text` or `mentor: read fault`.
+pub fn mentor_alone<S: Source, K: Sink>(
+    alloc: Global,
+    words: &[String],
+    source: &mut S,
+    sink: &mut K,
+) -> Outcome
+    // All that happened: an exercise was run to its end, or nothing was.
+    ensures run { IfSome result.finished (Runs words.now
+        (input_of S.left S.fault_count source.old) (input_of S.left S.fault_count source.new)
+        (output_of K.written K.fault_count sink.old) (output_of K.written K.fault_count sink.new)) }
+    ensures nothing { IfNone result.finished (RunsNothing words.now
+        (input_of S.left S.fault_count source.old) (input_of S.left S.fault_count source.new)
+        (output_of K.written K.fault_count sink.old) (output_of K.written K.fault_count sink.new)
+        result.status) }
+
+    // The statuses, of runs and of the rest.
+    ensures statuses { Contains statuses result.status }
+    ensures ended { MatchOption result.finished (Contains (2 ∷ 3 ∷ 4 ∷ 5 ∷ 9 ∷ []) result.status)
+        (λ f. result.status ≡ run_status f) }
+    ensures written { (end : End) → (result.status ≡ end_status end) ↔ IsSomeAnd result.finished (IsWritten end) }
+
+    // Words that spell no command: nothing is read.
+    ensures usage { result.status ≡ 2 → ¬ SpellsRun words.now }
+    ensures unspelled { ¬ SpellsRun words.now → Contains (2 ∷ 5 ∷ []) result.status }
+    ensures unread { ¬ SpellsRun words.now → source.new ≡ source.old }
+
+    // All that the source had left, where it tells that, is the text of no exercise.
+    ensures text { result.status ≡ 3 → SpellsRun words.now × IfSome (S.left source.old) IsNoExercise }
+    ensures no_exercise { SpellsRun words.now → IsSomeAnd (S.left source.old) IsNoExercise
+        → Contains (3 ∷ 4 ∷ 5 ∷ 9 ∷ []) result.status }
+
+    // Faults show, and only faults do.
+    ensures read_fault { result.status ≡ 4 → Rose (S.fault_count source.old) (S.fault_count source.new) }
+    ensures write_fault { result.status ≡ 5 → Rose (K.fault_count sink.old) (K.fault_count sink.new) }
+    ensures read_faults_show { S.fault_count source.old < S.fault_count source.new
+        → Contains (4 ∷ 5 ∷ []) result.status }
+    ensures write_faults_show { K.fault_count sink.old < K.fault_count sink.new
+        → Contains (5 ∷ 9 ∷ []) result.status }
+
+    // A status 2, 3 or 4 comes with its line, and an exercise without a fault runs.
+    ensures line { (refusal : Refusal) → result.status ≡ status_of refusal
+        → Appends (K.written sink.old) (K.written sink.new) (line_of refusal) }
+    ensures complete { (x : ExerciseView) → SpellsRun words.now
+        → IsSomeAnd (S.left source.old) (λ bytes. IsExercise bytes x)
+        → ¬ Rose (S.fault_count source.old) (S.fault_count source.new)
+        → ¬ Rose (K.fault_count sink.old) (K.fault_count sink.new)
+        → Contains (0 ∷ 6 ∷ 7 ∷ 9 ∷ []) result.status }
+
+    ensures source_never_falls { S.fault_count source.old ≤ S.fault_count source.new }
+    ensures sink_never_falls { K.fault_count sink.old ≤ K.fault_count sink.new }
+{
+    let answer = carry_out(alloc, words, source, sink);
+    Outcome::of(answer)
+}
