@@ -1,21 +1,19 @@
 -- A thread that a reply names was waiting.
-use Rattle.std.proofs.Common.{◌≡◌, ℕ, ◌+◌, ◌≤◌, Bool, true, false, ◌||◌, ◌==◌, List, [], ◌∷◌, ◌++◌, Option, Some, None, MatchBool, refl, ap, sym, ◌∙◌, subst, eq-eqb, arith}
+use Rattle.std.proofs.Common.{◌≡◌, ℕ, ◌≤◌, Bool, true, false, ◌||◌, ◌==◌, List, [], ◌∷◌, ◌++◌, Option, Some, None, ap, sym, eq-eqb}
 use Rattle.std.proofs.lemmas.Bool.{false≢true}
 use Rattle.tm_base.specs.declared.operations.Op.{Op}
 use Rattle.tm_base.specs.declared.operations.Op.TheVariants as op
-use Rattle.tm_base.specs.declared.replies.Reply.{Reply}
 use Rattle.tm_base.specs.declared.replies.Reply.TheVariants as reply
 use Rattle.tm_base.specs.declared.kinds.Kind.{Kind}
 use Rattle.tm_base.specs.declared.kinds.Kind.TheVariants as kind
-use Rattle.tm_base.specs.States.{Own, State, MutexOwn, ThreadOwn, queued, is_queued, is_waiting}
+use Rattle.tm_base.specs.States.{Own, State, MutexOwn, ThreadOwn, queued, is_queued}
 use Rattle.tm_base.specs.Rows.{Gives, Waits}
 use Rattle.tm_base.specs.Mutex.{MutexStep}
 use Rattle.tm_base.specs.ThreadObject.{ThreadStep}
 use Rattle.tm_base.specs.Steps.{OwnStep}
 use Rattle.tm_base.specs.Machines.{Held}
 use Rattle.tm_base.specs.Histories.{Lawful}
-use Rattle.tm_laws.specs.Counts.{is_grant}
-use Rattle.tm_laws.specs.Tidy.{IsSound, IsOwnOf}
+use Rattle.tm_laws.specs.Tidy.{IsSound}
 use Rattle.tm_laws.proofs.Rows.{either}
 use Rattle.tm_laws.proofs.Waiters.{waiting-known}
 

@@ -1,7 +1,6 @@
 -- Places and stamps stay below the number of events.
-use Rattle.std.proofs.Common.{◌≡◌, ◌≢◌, ℕ, suc, ◌+◌, ◌≤◌, max, ◌⊎◌, ⊎_elim, Bool, true, false, if◌then◌else◌, List, Option, Some, slice_get, slice_set, refl, ap, sym, ◌∙◌, subst, arith}
+use Rattle.std.proofs.Common.{◌≡◌, ◌≢◌, ℕ, ◌+◌, ◌≤◌, ⊎_elim, Bool, true, false, if◌then◌else◌, List, Some, slice_get, slice_set, sym, subst, arith}
 use Rattle.tm_base.specs.declared.events.Entry.{Entry}
-use Rattle.tm_base.specs.declared.operations.Op.{Op}
 use Rattle.tm_text.specs.Exercises.{ExerciseView}
 use Rattle.tm_replay.specs.Joint.{Joint, Standing, Place}
 use Rattle.tm_replay.specs.JointSteps.{JointStep, stepped, entered, is_call}

@@ -1,5 +1,5 @@
 -- Every event lowers the work that is left.
-use Rattle.std.proofs.Common.{◌≡◌, ◌≢◌, ℕ, zero, suc, ◌+◌, ◌*◌, ◌<◌, ◌≤◌, Bool, true, false, ◌||◌, ◌⊎◌, inl, inr, ⊎_elim, if◌then◌else◌, List, [], ◌∷◌, drop, length, Option, Some, None, IsSome, slice_get, slice_set, get_or, sum_by, refl, ap, sym, ◌∙◌, subst, arith}
+use Rattle.std.proofs.Common.{◌≡◌, ℕ, ◌+◌, ◌*◌, ◌≤◌, Bool, true, false, ◌||◌, ◌⊎◌, inl, inr, ⊎_elim, if◌then◌else◌, List, [], ◌∷◌, drop, length, Option, Some, None, IsSome, slice_get, slice_set, sum_by, refl, ap, sym, ◌∙◌, subst, arith}
 use Rattle.std.proofs.lemmas.Bool.{false≢true}
 use Rattle.std.proofs.lemmas.List.Sums.{sum_by-set}
 use Rattle.std.proofs.lemmas.Option.{slice_get_within, get_or_from_slice_get}
@@ -8,7 +8,6 @@ use Rattle.tm_base.specs.declared.operations.Op.TheVariants as op
 use Rattle.tm_base.specs.declared.replies.Reply.{Reply}
 use Rattle.tm_base.specs.declared.events.Entry.{Entry}
 use Rattle.tm_base.specs.declared.outcomes.Ask.TheVariants as ask
-use Rattle.tm_base.specs.States.{State}
 use Rattle.tm_base.specs.Histories.{Lawful}
 use Rattle.tm_laws.specs.Counts.{is_wait}
 use Rattle.tm_laws.specs.Tidy.{Moves, is_stop}
@@ -23,7 +22,7 @@ use Rattle.tm_replay.specs.Joint.{Joint, Standing, Place}
 use Rattle.tm_replay.specs.JointSteps.{JointStep, stepped, entered, phase_by, phase_after, rest_by}
 use Rattle.tm_replay.specs.Sound.{IsSoundJoint, IsAnswered, is_main}
 use Rattle.tm_replay.specs.Work.{work_in, work_of, stop_of, work}
-use Rattle.tm_replay.proofs.Moves.{Does, begins, ends, calls, resumes, Becomes, finished, waiting, freed, becomes}
+use Rattle.tm_replay.proofs.Moves.{Does, begins, ends, calls, resumes, Becomes, finished, waiting, freed}
 use Rattle.tm_replay.proofs.Soundness.{step-moves, step-does, step-became, step-after, step-stands, step-stops, step-main}
 
 -- where one element is set, the sum falls as it does

@@ -1,5 +1,5 @@
 -- One element of a list is set.
-use Rattle.std.proofs.Common.{◌≡◌, ◌≢◌, ℕ, zero, suc, ◌<◌, ◌⊎◌, inl, inr, ⊎_elim, List, [], ◌∷◌, Option, Some, None, slice_get, slice_set, length, refl, ap, sym, ◌∙◌, subst, arith, pred}
+use Rattle.std.proofs.Common.{◌≡◌, ◌≢◌, ℕ, zero, suc, ◌<◌, ◌⊎◌, inl, inr, ⊎_elim, List, [], ◌∷◌, Some, slice_get, slice_set, length, refl, ap, arith}
 
 -- what stands at a place of the list: the value, at the place that was set, or what stood there
 pub slice_get-set_cases : {A : Type 0} (xs : List A) (i k : ℕ) (v y : A) → slice_get (slice_set xs i v) k ≡ Some y → ((k ≡ i) × (y ≡ v)) ⊎ ((k ≢ i) × (slice_get xs k ≡ Some y))

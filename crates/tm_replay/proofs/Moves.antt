@@ -1,6 +1,5 @@
 -- What a program thread's event is, and what it makes of the thread.
-use Rattle.std.proofs.Common.{◌≡◌, ◌≢◌, ℕ, zero, suc, ◌+◌, ◌<◌, ◌≤◌, Bool, true, false, ◌||◌, ◌==◌, ◌⊎◌, inl, inr, ⊎_elim, if◌then◌else◌, List, [], ◌∷◌, drop, length, Option, Some, None, slice_get, MatchBool, refl, ap, sym, ◌∙◌, subst, arith, eq-eqb, ne_eqb}
-use Rattle.std.proofs.lemmas.List.{drop-drop}
+use Rattle.std.proofs.Common.{◌≡◌, ℕ, zero, suc, ◌+◌, Bool, true, false, inl, inr, List, [], ◌∷◌, drop, Some, slice_get, MatchBool, refl, ap, sym, ◌∙◌, subst, arith}
 use Rattle.tm_base.specs.declared.operations.Op.{Op}
 use Rattle.tm_base.specs.declared.operations.Op.TheVariants as op
 use Rattle.tm_base.specs.declared.replies.Reply.{Reply}
@@ -13,19 +12,18 @@ use Rattle.tm_base.specs.Fits.{fits}
 use Rattle.tm_base.specs.States.{Own, State, ThreadOwn}
 use Rattle.tm_base.specs.Steps.{OwnStep}
 use Rattle.tm_base.specs.Machines.{Held}
-use Rattle.tm_base.specs.Histories.{Lawful, Calls}
+use Rattle.tm_base.specs.Histories.{Lawful}
 use Rattle.tm_laws.specs.Counts.{is_wait}
 use Rattle.tm_laws.specs.Tidy.{is_stop}
 use Rattle.tm_laws.specs.ThreadObjects.{is_begin, is_end}
-use Rattle.tm_text.specs.declared.exercises.Declared.{Declared}
 use Rattle.tm_text.specs.declared.exercises.Statement.{Statement}
 use Rattle.tm_text.specs.declared.exercises.Statement.TheVariants as statement
-use Rattle.tm_text.specs.Exercises.{ExerciseView, IsWellFormed, IsStatement, IsOfKind, program_of, own_of}
-use Rattle.tm_text.specs.Programs.{Rest, answered, asked_of, left_after}
+use Rattle.tm_text.specs.Exercises.{ExerciseView, IsWellFormed, IsStatement, IsOfKind, program_of}
+use Rattle.tm_text.specs.Programs.{Rest, answered, asked_of}
 use Rattle.tm_replay.specs.declared.phases.Phase.{Phase}
 use Rattle.tm_replay.specs.declared.phases.Phase.TheVariants as phase
-use Rattle.tm_replay.specs.JointSteps.{MayIn, MayAsk, is_stopped, is_call, is_final, phase_by, rest_by}
-use Rattle.tm_replay.specs.Sound.{is_main, is_begun, is_past, waits_at}
+use Rattle.tm_replay.specs.JointSteps.{MayIn, MayAsk, is_stopped, is_call, phase_by, rest_by}
+use Rattle.tm_replay.specs.Sound.{is_main}
 
 -- a program thread begins or ends on its own object, makes the call that its program asks, or resumes
 pub data Does : ℕ → Phase → Rest → ℕ → Op → Type 0 where

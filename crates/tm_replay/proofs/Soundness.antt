@@ -1,5 +1,5 @@
 -- A joint step leads from a sound joint state to a sound one.
-use Rattle.std.proofs.Common.{◌≡◌, ◌≢◌, ℕ, zero, suc, ◌+◌, ◌<◌, ◌≤◌, Bool, true, false, ◌||◌, ◌==◌, ◌⊎◌, inl, inr, ⊎_elim, if◌then◌else◌, List, [], ◌∷◌, drop, length, Option, Some, None, IsSome, slice_get, slice_set, refl, ap, sym, ◌∙◌, subst, arith, eq-eqb, ne_eqb, length-set}
+use Rattle.std.proofs.Common.{◌≡◌, ◌≢◌, ℕ, ◌+◌, ◌<◌, ◌≤◌, Bool, true, false, ◌||◌, ◌==◌, ◌⊎◌, inl, inr, ⊎_elim, if◌then◌else◌, List, drop, length, Option, Some, None, IsSome, slice_get, refl, ap, sym, ◌∙◌, subst, arith, eq-eqb, ne_eqb, length-set}
 use Rattle.std.proofs.lemmas.Bool.{cases_eq, false≢true}
 use Rattle.std.proofs.lemmas.List.{drop-drop}
 use Rattle.std.proofs.lemmas.Option.{slice_get_within}
@@ -7,22 +7,20 @@ use Rattle.tm_base.specs.declared.operations.Op.{Op}
 use Rattle.tm_base.specs.declared.operations.Op.TheVariants as op
 use Rattle.tm_base.specs.declared.replies.Reply.{Reply}
 use Rattle.tm_base.specs.declared.events.Entry.{Entry}
-use Rattle.tm_base.specs.States.{Own, State, is_pending}
-use Rattle.tm_base.specs.Machines.{Held}
+use Rattle.tm_base.specs.States.{Own, is_pending}
 use Rattle.tm_base.specs.Histories.{Lawful}
 use Rattle.tm_laws.specs.Counts.{is_wait}
-use Rattle.tm_laws.specs.Tidy.{IsSound, Moves, is_stop}
+use Rattle.tm_laws.specs.Tidy.{Moves, is_stop}
 use Rattle.tm_laws.specs.ThreadObjects.{has_begun, has_ended, is_begin, is_end}
 use Rattle.tm_laws.proofs.Moving.{Lawful-moves}
 use Rattle.tm_laws.proofs.Begun.{Noted, Lawful-noted}
-use Rattle.tm_text.specs.declared.exercises.Declared.{Declared}
 use Rattle.tm_text.specs.Exercises.{ExerciseView, IsWellFormed, program_of, own_of, thread_of}
 use Rattle.tm_text.specs.Programs.{Rest, answered, left_after}
 use Rattle.tm_text.proofs.Owns.{own_of-found}
 use Rattle.tm_replay.specs.declared.phases.Phase.{Phase}
 use Rattle.tm_replay.specs.declared.phases.Phase.TheVariants as phase
 use Rattle.tm_replay.specs.Joint.{Joint, Standing, Place}
-use Rattle.tm_replay.specs.JointSteps.{JointStep, MayIn, stepped, entered, phase_by, phase_after, rest_by, is_call}
+use Rattle.tm_replay.specs.JointSteps.{JointStep, MayIn, stepped, entered, phase_by, phase_after, rest_by}
 use Rattle.tm_replay.specs.Sound.{IsSoundJoint, IsPlaced, IsStanding, IsAnswered, IsAmong, is_main, is_begun, is_past, waits_at}
 use Rattle.tm_replay.proofs.Lists.{slice_get-set_cases}
 use Rattle.tm_replay.proofs.Moves.{Does, begins, ends, calls, resumes, may-does, Becomes, finished, waiting, freed, becomes, call-no_stop, call-no_life, asked-well_formed, end-answers}

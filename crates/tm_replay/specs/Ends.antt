@@ -1,6 +1,5 @@
 -- How a run ended, as its last joint state shows it.
-use Rattle.std.specs.Prelude.{ℕ, Bool, true, false, not, ◌&&◌, if◌then◌else◌, List, [], filter, slice_get, Option, Some, None}
-use Rattle.std.specs.List.{list_any}
+use Rattle.std.specs.Prelude.{ℕ, Bool, false, not, ◌&&◌, List, [], filter, slice_get, Option, Some, None}
 use Rattle.tm_base.specs.declared.outcomes.End.{End}
 use Rattle.tm_base.specs.declared.outcomes.End.TheVariants as end
 use Rattle.tm_replay.specs.declared.phases.Phase.{Phase}

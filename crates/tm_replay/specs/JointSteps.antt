@@ -1,6 +1,6 @@
 -- The joint step: one event, made by one thread on one object. It is the interleaving of sequential
 -- processes, and knows no lock, schedule or limit.
-use Rattle.std.specs.Prelude.{◌≡◌, ℕ, suc, ◌+◌, max, Bool, true, false, if◌then◌else◌, ◌⊎◌, List, slice_get, slice_set, Option, Some, None, MatchBool}
+use Rattle.std.specs.Prelude.{◌≡◌, ℕ, suc, ◌+◌, max, Bool, true, false, if◌then◌else◌, ◌⊎◌, List, slice_get, slice_set, Option, Some, MatchBool}
 use Rattle.tm_base.specs.declared.operations.Op.{Op}
 use Rattle.tm_base.specs.declared.operations.Op.TheVariants as op
 use Rattle.tm_base.specs.declared.replies.Reply.{Reply}

@@ -1,5 +1,5 @@
 -- What holds in every joint state of a legal run.
-use Rattle.std.specs.Prelude.{◌≡◌, ℕ, suc, ◌+◌, ◌<◌, ◌≤◌, Bool, true, false, ◌==◌, List, drop, length, slice_get, Option, Some, None, IsSome}
+use Rattle.std.specs.Prelude.{◌≡◌, ℕ, suc, ◌<◌, ◌≤◌, Bool, true, false, ◌==◌, drop, length, slice_get, Option, Some, None, IsSome}
 use Rattle.tm_base.specs.declared.replies.Reply.{Reply}
 use Rattle.tm_base.specs.States.{is_pending}
 use Rattle.tm_laws.specs.Tidy.{IsSound}

@@ -1,6 +1,6 @@
 -- How much a run still can do, as a number that every event lowers, and numbers that bound its places and
 -- stamps.
-use Rattle.std.specs.Prelude.{◌≡◌, ℕ, ◌+◌, ◌*◌, ◌≤◌, not, if◌then◌else◌, List, drop, length, sum_by, slice_get, Option, Some, None}
+use Rattle.std.specs.Prelude.{◌≡◌, ℕ, ◌+◌, ◌*◌, ◌≤◌, if◌then◌else◌, List, length, sum_by, slice_get, Option, Some}
 use Rattle.tm_base.specs.declared.replies.Reply.{Reply}
 use Rattle.tm_text.specs.declared.exercises.Statement.{Statement}
 use Rattle.tm_text.specs.Programs.{left_after}

@@ -1,5 +1,5 @@
 -- The thread that moves next.
-use Rattle.std.proofs.Common.{◌≡◌, ◌≢◌, ℕ, zero, suc, ◌+◌, ◌-◌, ◌<◌, ◌≤◌, Bool, true, false, not, ◌&&◌, ◌⊎◌, inl, inr, ⊎_elim, cond, List, [], ◌∷◌, ◌++◌, map, length, find, Option, Some, None, slice_get, get_or, refl, ap, sym, ◌∙◌, subst, arith}
+use Rattle.std.proofs.Common.{◌≡◌, ◌≢◌, ℕ, zero, suc, ◌+◌, ◌-◌, ◌<◌, ◌≤◌, Bool, true, false, not, ◌&&◌, ⊎_elim, cond, List, [], ◌∷◌, ◌++◌, map, length, find, Option, Some, None, slice_get, get_or, refl, ap, sym, ◌∙◌, arith}
 use Rattle.std.specs.List.{range_with_len, list_all}
 use Rattle.std.specs.Option.{option_map, option_or}
 use Rattle.std.proofs.lemmas.Bool.{false≢true, cases_lt}
@@ -9,9 +9,7 @@ use Rattle.std.proofs.lemmas.Option.{slice_get-map, slice_get_within, slice_get-
 use Rattle.tm_base.specs.declared.outcomes.Bar.{Bar}
 use Rattle.tm_replay.specs.Joint.{Joint}
 use Rattle.tm_replay.specs.Bars.{bar_of, bars_of, is_runnable, is_over, is_stuck}
-use Rattle.tm_session.specs.Turns.{runs_at, is_runnable_bar, cyclic, next_thread}
-use Rattle.tm_session.proofs.Growing.{range_known}
-use Rattle.tm_session.proofs.Reading.{found_at}
+use Rattle.tm_session.specs.Turns.{runs_at, is_runnable_bar, next_thread}
 
 -- the first number of a range that passes
 pub find-range : (p : ℕ → Bool) (from n t : ℕ) → from ≤ t → t < from + n → ((k : ℕ) → from ≤ k → k < t → p k ≡ false) → p t ≡ true → find p (range_with_len from n) ≡ Some t

@@ -1,15 +1,12 @@
 -- What a thread or `main` does next is a joint step.
-use Rattle.std.proofs.Common.{◌≡◌, ◌≢◌, ℕ, zero, suc, ◌+◌, ◌-◌, ◌<◌, ◌≤◌, ◌^◌, Bool, true, false, ◌⊎◌, inl, inr, ⊎_elim, if◌then◌else◌, List, [], ◌∷◌, length, Option, Some, None, slice_get, refl, ap, sym, ◌∙◌, subst, arith, ne_eqb, eq-eqb}
+use Rattle.std.proofs.Common.{◌≡◌, ℕ, ◌<◌, ◌≤◌, Bool, true, false, if◌then◌else◌, length, Option, Some, None, slice_get, refl, ap, sym, ◌∙◌, subst, arith, ne_eqb, eq-eqb}
 use Rattle.std.proofs.lemmas.Bool.{false≢true}
-use Rattle.std.proofs.lemmas.Option.{slice_get_within}
 use Rattle.tm_base.specs.declared.operations.Op.{Op}
 use Rattle.tm_base.specs.declared.operations.Op.TheVariants as op
 use Rattle.tm_base.specs.declared.events.Entry.{Entry}
-use Rattle.tm_base.specs.declared.outcomes.Bar.{Bar}
 use Rattle.tm_base.specs.declared.outcomes.Bar.TheVariants as bar
 use Rattle.tm_base.specs.States.{queued, is_waiting}
 use Rattle.tm_text.specs.Exercises.{ExerciseView, IsWellFormed, own_of}
-use Rattle.tm_text.specs.Programs.{Rest}
 use Rattle.tm_replay.specs.declared.phases.Phase.{Phase}
 use Rattle.tm_replay.specs.declared.phases.Phase.TheVariants as phase
 use Rattle.tm_replay.specs.Joint.{Joint, Standing, Place}
@@ -18,7 +15,6 @@ use Rattle.tm_replay.specs.Bars.{bar_of, bar_in, bars_of, is_runnable, waits_in,
 use Rattle.tm_replay.specs.Sound.{IsSoundJoint, is_main}
 use Rattle.tm_replay.proofs.Moves.{Does, may-does, asked-well_formed}
 use Rattle.tm_session.specs.declared.moves.Wish.{Wish}
-use Rattle.tm_session.specs.Entering.{CanAnswer}
 use Rattle.tm_session.specs.Seats.{GoesOn, AsksCalls}
 use Rattle.tm_session.specs.Scenes.{IsEarly, CanPerform, Performs}
 use Rattle.tm_session.specs.Turns.{next_thread, runs_at, cyclic, KeepsLimit}

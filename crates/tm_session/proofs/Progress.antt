@@ -1,27 +1,24 @@
 -- A thread's next event is one that its object answers.
-use Rattle.std.proofs.Common.{◌≡◌, ◌≢◌, ℕ, suc, ◌<◌, ◌≤◌, Bool, true, false, ◌||◌, ◌⊎◌, inl, inr, ⊎_elim, List, Option, Some, None, is_some, IsSome, length, slice_get, refl, ap, sym, ◌∙◌, subst, arith, eq-eqb}
-use Rattle.std.proofs.lemmas.Bool.{false≢true}
+use Rattle.std.proofs.Common.{◌≡◌, ℕ, ◌<◌, ◌≤◌, Bool, true, false, ◌||◌, Some, is_some, length, slice_get, refl, ap, sym, ◌∙◌, subst, arith, eq-eqb}
 use Rattle.std.proofs.lemmas.Option.{slice_get_within}
 use Rattle.tm_base.specs.declared.operations.Op.{Op}
 use Rattle.tm_base.specs.declared.operations.Op.TheVariants as op
 use Rattle.tm_base.specs.declared.kinds.Kind.{Kind}
 use Rattle.tm_base.specs.declared.kinds.Kind.TheVariants as kind
-use Rattle.tm_base.specs.declared.outcomes.Ask.TheVariants as ask
 use Rattle.tm_base.specs.Fits.{fits}
 use Rattle.tm_base.specs.States.{Own, State, ThreadOwn, grant_of, is_pending, is_waiting}
 use Rattle.tm_base.specs.Machines.{Held, CanStep, IsInTurn, is_step}
 use Rattle.tm_laws.specs.Tidy.{IsOwnOf}
 use Rattle.tm_laws.specs.ThreadObjects.{has_begun, has_ended}
 use Rattle.tm_text.specs.declared.exercises.Declared.{Declared}
-use Rattle.tm_text.specs.Exercises.{ExerciseView, IsWellFormed, own_of, thread_of, thread_of_kind}
-use Rattle.tm_text.specs.Programs.{Rest, asked_of}
+use Rattle.tm_text.specs.Exercises.{ExerciseView, IsWellFormed, own_of, thread_of_kind}
 use Rattle.tm_text.proofs.Owns.{own_of-found, own_of-below}
 use Rattle.tm_replay.specs.declared.phases.Phase.{Phase}
 use Rattle.tm_replay.specs.declared.phases.Phase.TheVariants as phase
 use Rattle.tm_replay.specs.Joint.{Joint, Standing, Place}
 use Rattle.tm_replay.specs.JointSteps.{is_call}
 use Rattle.tm_replay.specs.Sound.{IsSoundJoint, IsPlaced, IsAmong, is_begun, is_past, waits_at}
-use Rattle.tm_replay.proofs.Moves.{Does, begins, ends, calls, resumes, asked-well_formed, IsAsked}
+use Rattle.tm_replay.proofs.Moves.{Does, begins, ends, calls, resumes, asked-well_formed}
 use Rattle.tm_session.specs.Entering.{CanAnswer}
 
 -- what is made by a step may be answered where it can be stepped

@@ -1,5 +1,5 @@
 -- What an exercise declares at a place.
-use Rattle.std.proofs.Common.{◌≡◌, ◌≤◌, ◌<◌, ℕ, zero, suc, List, [], ◌∷◌, length, Option, Some, None, slice_get, refl, arith}
+use Rattle.std.proofs.Common.{◌≡◌, ◌<◌, ℕ, zero, suc, List, [], ◌∷◌, length, Some, slice_get, refl, arith}
 use Rattle.tm_text.specs.declared.exercises.Declared.{Declared}
 use Rattle.tm_text.specs.Exercises.{ExerciseView}
 

@@ -1,5 +1,5 @@
 -- A turn's event has a row, and keeps the session under way.
-use Rattle.std.proofs.Common.{◌≡◌, ℕ, suc, ◌+◌, ◌<◌, ◌≤◌, Bool, true, false, List, [], ◌∷◌, ◌++◌, length, Option, Some, slice_get, refl, ap, sym, ◌∙◌, subst, arith}
+use Rattle.std.proofs.Common.{◌≡◌, ℕ, ◌+◌, ◌<◌, ◌≤◌, Bool, true, false, List, [], ◌∷◌, ◌++◌, length, Option, refl, ap, sym, subst, arith}
 use Rattle.std.proofs.lemmas.Option.{slice_get_within}
 use Rattle.tm_base.specs.declared.operations.Op.{Op}
 use Rattle.tm_base.specs.declared.replies.Reply.{Reply}
@@ -17,7 +17,7 @@ use Rattle.tm_laws.specs.Tidy.{IsSound}
 use Rattle.tm_laws.proofs.Giving.{IsGiver, Lawful-gives}
 use Rattle.tm_laws.proofs.Runs.{Leads-snoc}
 use Rattle.tm_text.specs.Exercises.{ExerciseView, IsWellFormed, IsKindRead}
-use Rattle.tm_timeline.specs.Rows.{row_of, NamesThread, IsProgramThread}
+use Rattle.tm_timeline.specs.Rows.{row_of, NamesThread}
 use Rattle.tm_replay.specs.Joint.{Joint}
 use Rattle.tm_replay.specs.JointSteps.{JointStep}
 use Rattle.tm_replay.specs.Bars.{bars_of}

@@ -1,17 +1,15 @@
 -- Which objects `main` stops.
-use Rattle.std.proofs.Common.{◌≡◌, ◌≢◌, ℕ, zero, suc, ◌+◌, ◌-◌, ◌<◌, ◌≤◌, Bool, true, false, not, ◌&&◌, ◌||◌, ◌⊎◌, inl, inr, ⊎_elim, cond, if◌then◌else◌, List, [], ◌∷◌, ◌++◌, map, filter, length, Option, Some, None, slice_get, slice_set, refl, ap, sym, ◌∙◌, subst, arith}
+use Rattle.std.proofs.Common.{◌≡◌, ◌≢◌, ℕ, zero, suc, ◌+◌, ◌<◌, ◌≤◌, Bool, true, false, not, ◌&&◌, ◌⊎◌, inl, inr, ⊎_elim, cond, if◌then◌else◌, List, [], ◌∷◌, filter, length, Option, Some, None, slice_get, slice_set, refl, ap, sym, ◌∙◌, subst, arith}
 use Rattle.std.specs.List.{range_with_len, list_all, AllByRecursion}
 use Rattle.std.proofs.lemmas.Bool.{false≢true}
 use Rattle.std.proofs.lemmas.Option.{slice_get_within}
-use Rattle.tm_base.specs.declared.events.Entry.{Entry}
 use Rattle.tm_base.specs.declared.outcomes.Bar.{Bar}
 use Rattle.tm_base.specs.declared.outcomes.Bar.TheVariants as bar
-use Rattle.tm_base.specs.States.{State, is_waiting, is_queued, queued}
+use Rattle.tm_base.specs.States.{is_queued, queued}
 use Rattle.tm_text.specs.Exercises.{ExerciseView}
 use Rattle.tm_replay.specs.declared.phases.Phase.{Phase}
 use Rattle.tm_replay.specs.declared.phases.Phase.TheVariants as phase
 use Rattle.tm_replay.specs.Joint.{Joint, Standing, Place}
-use Rattle.tm_replay.specs.JointSteps.{JointStep, entered}
 use Rattle.tm_replay.specs.Bars.{bar_of, bar_for, bar_in, bars_of, is_runnable, is_ended, is_over, is_stuck, waits_in, is_some_queued, has_waiter, waited_objects}
 use Rattle.tm_replay.specs.Sound.{IsSoundJoint, IsAmong}
 use Rattle.tm_session.specs.Running.{AreWaited}

@@ -1,12 +1,11 @@
 -- One turn after another.
-use Rattle.std.proofs.Common.{◌≡◌, ◌≢◌, ℕ, zero, suc, ◌+◌, ◌-◌, ◌<◌, ◌≤◌, ◌^◌, true, false, List, [], ◌∷◌, ◌++◌, length, Some, slice_get, slice_set, refl, ap, sym, ◌∙◌, subst, arith}
+use Rattle.std.proofs.Common.{◌≡◌, ℕ, ◌+◌, ◌≤◌, List, [], ◌∷◌, length, slice_set, ap, sym, ◌∙◌, subst, arith}
 use Rattle.std.proofs.lemmas.Option.{slice_get_within}
 use Rattle.tm_base.specs.declared.events.Entry.{Entry}
 use Rattle.tm_base.specs.Runs.{Leads}
 use Rattle.tm_text.specs.Exercises.{ExerciseView, IsWellFormed}
 use Rattle.tm_replay.specs.Joint.{Joint}
 use Rattle.tm_replay.specs.JointSteps.{JointStep, IsJointRun, entered}
-use Rattle.tm_replay.specs.Bars.{bars_of}
 use Rattle.tm_replay.specs.Sound.{IsSoundJoint}
 use Rattle.tm_replay.specs.Work.{IsCounted, work}
 use Rattle.tm_replay.proofs.Starts.{IsSoundJoint-start}
@@ -14,12 +13,10 @@ use Rattle.tm_replay.proofs.Soundness.{IsSoundJoint-step}
 use Rattle.tm_replay.proofs.Falling.{work-step}
 use Rattle.tm_replay.proofs.Counted.{IsCounted-step}
 use Rattle.tm_session.specs.declared.turns.Run.{Run}
-use Rattle.tm_session.specs.declared.scenes.Scene.{Scene}
-use Rattle.tm_session.specs.Scenes.{joint_of, IsEarly}
-use Rattle.tm_session.specs.Turns.{Turn, first_turn, BeginsAlone, Goes, GoesBy, Moves, Halts, due_stops, next_thread}
+use Rattle.tm_session.specs.Scenes.{joint_of}
+use Rattle.tm_session.specs.Turns.{Turn, first_turn, BeginsAlone, Goes, GoesBy, Moves, due_stops}
 use Rattle.tm_session.specs.Running.{turn_of, MovesOn, AreWaited}
 use Rattle.tm_session.proofs.Stopping.{due-waited, waited-after}
-use Rattle.tm_session.proofs.Choosing.{find-passes, runs-known}
 
 -- a thread that went on, from a run that differs from the old one in its due objects alone
 pub moves : (x : ExerciseView) (limit : ℕ) (p : Turn) (mid new : Run) (e : Entry) → joint_of mid.scene ≡ p.joint → mid.last ≡ p.last → mid.stops.items ≡ [] → MovesOn x limit mid e new → Moves x limit p e (turn_of new)

@@ -1,5 +1,5 @@
 -- What a thread may do next keeps its limit.
-use Rattle.std.proofs.Common.{◌≡◌, Bool, true, false, Option, sym, ◌∙◌}
+use Rattle.std.proofs.Common.{◌≡◌, Bool, true, false, Option}
 use Rattle.tm_base.specs.declared.operations.Op.{Op}
 use Rattle.tm_base.specs.declared.operations.Op.TheVariants as op
 use Rattle.tm_base.specs.declared.replies.Reply.{Reply}

@@ -3,7 +3,7 @@ use Rattle.std.specs.Prelude.{◌≡◌, ℕ, ◌≤◌, ◌<◌, true, List, []
 use Rattle.std.specs.List.{AllByRecursion}
 use Rattle.tm_base.specs.declared.events.Entry.{Entry}
 use Rattle.tm_text.specs.Exercises.{ExerciseView, IsWellFormed}
-use Rattle.tm_replay.specs.Joint.{Joint, Standing}
+use Rattle.tm_replay.specs.Joint.{Joint}
 use Rattle.tm_replay.specs.JointSteps.{JointStep}
 use Rattle.tm_replay.specs.Bars.{bars_of, has_waiter}
 use Rattle.tm_replay.specs.Sound.{IsSoundJoint}

@@ -1,6 +1,5 @@
 -- A run that writes its rows, as the session keeps it.
 use Rattle.std.specs.Prelude.{◌≡◌, ℕ, ◌+◌, ◌≤◌, List, length, Option}
-use Rattle.tm_base.specs.declared.events.Entry.{Entry}
 use Rattle.tm_text.specs.Exercises.{ExerciseView, IsWellFormed}
 use Rattle.tm_replay.specs.Bars.{bars_of}
 use Rattle.tm_replay.specs.Work.{IsCounted, work}

@@ -1,6 +1,5 @@
-use Rattle.std.proofs.Common.{◌≡◌, ◌≤◌, ◌<◌, ◌+◌, ◌-◌, ℕ, All, append-nil, [], ◌∷◌, ◌++◌, filter, length, Some, slice_get, if◌then◌else◌, Bool, true, false, arith, refl, ap, sym, ◌∙◌, subst}
+use Rattle.std.proofs.Common.{◌≡◌, ◌≤◌, ◌+◌, ◌-◌, ℕ, All, append-nil, [], ◌∷◌, ◌++◌, filter, length, slice_get, if◌then◌else◌, arith, refl, ap, sym, ◌∙◌, subst}
 use Rattle.std.specs.List.{range_with_len}
-use Rattle.std.proofs.lemmas.List.Elements.{All-filter}
 use Rattle.std.proofs.lemmas.Option.{slice_get_read}
 use Rattle.tm_timeline.specs.Rows.{IsProgramThread}
 use Rattle.tm_replay.specs.Ends.{threads_where}

@@ -1,10 +1,9 @@
-use Rattle.std.proofs.Common.{◌≡◌, ◌≤◌, ◌++◌, IfOk, OnErr, Result, Ok, Err, List, ℕ, Option, ap, sym, subst, arith}
+use Rattle.std.proofs.Common.{◌≡◌, IfOk, OnErr, Result, Ok, Err, List, ℕ, Option, sym, subst, arith}
 use Rattle.tm_base.specs.declared.events.Entry.{Entry}
 use Rattle.tm_outside.specs.Appending.{AppendsPrefix}
 use Rattle.tm_replay.specs.Joint.{Joint}
 use Rattle.tm_replay.specs.JointSteps.{IsJointRun}
 use Rattle.tm_session.specs.Scenes.{joint_of}
-use Rattle.tm_session.specs.Pages.{BeginsAloneText}
 use Rattle.tm_session.specs.Running.{turn_of}
 use Rattle.tm_session.proofs.Turning.{alone-legal}
 use Rattle.tm_session.proofs.Rowing.{begun-text}

@@ -1,4 +1,4 @@
-use Rattle.std.proofs.Common.{◌≡◌, ◌≤◌, ℕ}
+use Rattle.std.proofs.Common.{◌≤◌}
 use Rattle.tm_replay.specs.Work.{work}
 use Rattle.tm_session.specs.Scenes.{joint_of}
 use Rattle.tm_session.specs.Sessions.{IsUnderWay, HasSent}

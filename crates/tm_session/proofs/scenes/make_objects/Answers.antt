@@ -1,9 +1,7 @@
-use Rattle.std.proofs.Common.{◌≡◌, ◌≤◌, ◌<◌, ℕ, [], ◌∷◌, ◌++◌, length, map, take, Some, None, IfSome, slice_get, ⊎_elim, arith, ap, sym, ◌∙◌, subst}
-use Rattle.std.proofs.lemmas.Option.{slice_get_cases}
+use Rattle.std.proofs.Common.{◌≡◌, ℕ, [], ◌∷◌, ◌++◌, length, map, take, IfSome, arith, ap, sym, ◌∙◌, subst}
 use Rattle.tm_base.specs.declared.kinds.Kind.{Kind}
 use Rattle.tm_book.specs.Made.{CanMake}
 use Rattle.tm_text.specs.declared.exercises.Declared.{Declared}
-use Rattle.tm_text.specs.Exercises.{ExerciseView}
 use Rattle.tm_replay.specs.Joint.{first_place}
 use Rattle.tm_session.proofs.Growing.{map-take_more}
 use Rattle.tm_session.proofs.Making.{can_make}

@@ -1,5 +1,4 @@
 use Rattle.std.proofs.Common.{◌≡◌, map, take, length}
-use Rattle.tm_text.specs.Exercises.{IsWellFormed}
 use Rattle.tm_replay.specs.Joint.{first_place}
 use Rattle.tm_session.proofs.scenes.make_objects.Given as goal
 

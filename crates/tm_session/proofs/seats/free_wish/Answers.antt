@@ -1,4 +1,4 @@
-use Rattle.std.proofs.Common.{sym, ◌∙◌}
+use Rattle.std.proofs.Common.{sym}
 use Rattle.tm_session.proofs.Wishes.{IsWithin-call}
 use Rattle.tm_session.proofs.seats.free_wish.Goals as goal
 

@@ -1,6 +1,4 @@
-use Rattle.std.proofs.Common.{◌≡◌, ◌+◌, ◌-◌, length, find, sym, ap, ◌∙◌}
-use Rattle.std.specs.List.{range_with_len}
-use Rattle.tm_session.specs.Turns.{runs_at}
+use Rattle.std.proofs.Common.{sym, ◌∙◌}
 use Rattle.tm_session.proofs.Choosing.{next_thread-first, next_thread-second}
 use Rattle.tm_session.proofs.turns.next_runnable.Goals as goal
 

@@ -1,4 +1,4 @@
-use Rattle.std.proofs.Common.{◌≡◌, ◌-◌, sym, ◌∙◌}
+use Rattle.std.proofs.Common.{sym, ◌∙◌}
 use Rattle.tm_session.proofs.Choosing.{runs_at-index}
 use Rattle.tm_session.proofs.turns.runs.Goals as goal
 

@@ -1,5 +1,5 @@
-use Rattle.std.proofs.Common.{◌≡◌, Bool, true, false, not, is_some, is_none, ap, sym, ◌∙◌, refl}
-use Rattle.tm_base.specs.States.{is_waiting, grant_of}
+use Rattle.std.proofs.Common.{◌≡◌, Bool, true, false, not, is_some, ap, sym, ◌∙◌}
+use Rattle.tm_base.specs.States.{grant_of}
 use Rattle.tm_session.proofs.Blocking.{blocked}
 use Rattle.tm_session.proofs.objects.Object.blocks.Goals as goal
 

@@ -1,9 +1,8 @@
-use Rattle.std.proofs.Common.{◌≡◌, suc, ◌+◌, max, refl, arith, ap, sym, ◌∙◌, subst}
-use Rattle.tm_base.specs.Machines.{Held, changed}
+use Rattle.std.proofs.Common.{◌≡◌, ◌+◌, refl, arith, ap, ◌∙◌, subst}
+use Rattle.tm_base.specs.Machines.{changed}
 use Rattle.tm_base.specs.Histories.{Lawful}
 use Rattle.tm_book.specs.AnyMachines.{any_held}
 use Rattle.tm_replay.specs.Joint.{Place}
-use Rattle.tm_session.specs.Entering.{IsEntered}
 use Rattle.tm_session.proofs.objects.Object.enter.Goals as goal
 
 pub returns : goal.returns

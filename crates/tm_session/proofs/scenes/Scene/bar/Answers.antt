@@ -1,4 +1,4 @@
-use Rattle.std.proofs.Common.{◌≡◌, Some, slice_get, length, refl, ap, sym, ◌∙◌, subst}
+use Rattle.std.proofs.Common.{length, refl, ap, sym, ◌∙◌, subst}
 use Rattle.std.proofs.lemmas.Option.{slice_get_read}
 use Rattle.tm_replay.specs.Bars.{bar_in}
 use Rattle.tm_session.specs.Scenes.{joint_of, CanShow}

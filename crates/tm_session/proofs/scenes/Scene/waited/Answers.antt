@@ -1,4 +1,4 @@
-use Rattle.std.proofs.Common.{◌≡◌, ◌+◌, ℕ, append-nil, [], ◌∷◌, ◌++◌, filter, length, Some, slice_get, if◌then◌else◌, Bool, true, false, arith, refl, ap, sym, ◌∙◌}
+use Rattle.std.proofs.Common.{◌≡◌, ℕ, append-nil, [], ◌∷◌, ◌++◌, filter, length, slice_get, if◌then◌else◌, arith, refl, ap, sym, ◌∙◌}
 use Rattle.std.specs.List.{range_with_len}
 use Rattle.std.proofs.lemmas.Option.{slice_get_read}
 use Rattle.tm_replay.specs.Bars.{has_waiter}

@@ -1,4 +1,4 @@
-use Rattle.std.proofs.Common.{◌≡◌, ◌≤◌, ◌+◌, ℕ, List, [], length, Option, refl, sym, ap, ◌∙◌, subst, arith}
+use Rattle.std.proofs.Common.{◌≡◌, ◌≤◌, ℕ, List, [], length, refl, sym, ap, subst, arith}
 use Rattle.tm_text.specs.Exercises.{IsWellFormed}
 use Rattle.tm_replay.specs.Joint.{Joint, start}
 use Rattle.tm_replay.specs.Sound.{IsSoundJoint}

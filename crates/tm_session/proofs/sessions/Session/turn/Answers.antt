@@ -1,4 +1,4 @@
-use Rattle.std.proofs.Common.{◌≡◌, ◌≤◌, ◌<◌, ◌++◌, ◌+◌, ℕ, List, Option, [], ◌∷◌, length, refl, sym, ap, ◌∙◌, subst, arith}
+use Rattle.std.proofs.Common.{◌≡◌, ◌++◌, ◌+◌, ℕ, List, [], ◌∷◌, length, refl, sym, ap, ◌∙◌, subst, arith}
 use Rattle.std.proofs.lemmas.List.{length-append}
 use Rattle.tm_base.specs.declared.events.Entry.{Entry}
 use Rattle.tm_base.specs.declared.outcomes.Bar.{Bar}
@@ -6,13 +6,12 @@ use Rattle.tm_laws.proofs.Runs.{Leads-snoc}
 use Rattle.tm_text.specs.Exercises.{ExerciseView}
 use Rattle.tm_replay.specs.Joint.{Joint}
 use Rattle.tm_replay.specs.JointSteps.{JointStep}
-use Rattle.tm_replay.specs.Bars.{bars_of, is_over}
-use Rattle.tm_replay.specs.Work.{work, IsCounted}
+use Rattle.tm_replay.specs.Bars.{bars_of}
+use Rattle.tm_replay.specs.Work.{IsCounted}
 use Rattle.tm_timeline.specs.Rows.{row_of}
 use Rattle.tm_session.specs.declared.sessions.Session.{Session}
 use Rattle.tm_session.specs.Scenes.{joint_of}
-use Rattle.tm_session.specs.Sessions.{IsUnderWay, HasSent}
-use Rattle.tm_session.specs.Sending.{IsSent}
+use Rattle.tm_session.specs.Sessions.{IsUnderWay}
 use Rattle.tm_session.specs.Turns.{Turn, Goes, BeginsAlone, first_turn}
 use Rattle.tm_session.specs.Running.{turn_of}
 use Rattle.tm_session.specs.Pages.{AreRows}

@@ -1,12 +1,9 @@
-use Rattle.std.proofs.Common.{◌≡◌, ◌∷◌, List, ℕ, true, [], refl, slice_get, sym, ap, ◌∙◌, subst}
+use Rattle.std.proofs.Common.{◌≡◌, ◌∷◌, List, ℕ, true, slice_get, sym, ap, ◌∙◌, subst}
 use Rattle.tm_replay.specs.Joint.{Joint}
 use Rattle.tm_replay.specs.Sound.{IsSoundJoint}
-use Rattle.tm_replay.specs.JointSteps.{JointStep}
-use Rattle.tm_replay.specs.Bars.{bars_of, is_stuck, has_waiter}
-use Rattle.tm_base.specs.declared.events.Entry.{Entry}
-use Rattle.tm_session.specs.declared.scenes.Scene.{Scene}
+use Rattle.tm_replay.specs.Bars.{is_stuck, has_waiter}
 use Rattle.tm_session.specs.Scenes.{joint_of, IsEarly}
-use Rattle.tm_session.specs.Turns.{Goes, GoesBy, Turn, due_stops}
+use Rattle.tm_session.specs.Turns.{GoesBy}
 use Rattle.tm_session.specs.Running.{turn_of, AreWaited}
 use Rattle.tm_session.proofs.Stopping.{due-waited, none-due}
 use Rattle.tm_session.proofs.Turning.{moves}

@@ -1,11 +1,11 @@
-use Rattle.std.proofs.Common.{◌≡◌, ◌≢◌, ◌≤◌, ◌<◌, ◌-◌, ℕ, List, Some, None, length, refl, slice_get, arith, sym, ap, ◌∙◌, subst}
+use Rattle.std.proofs.Common.{◌≡◌, ◌≤◌, ◌<◌, ℕ, List, Some, length, refl, slice_get, arith, sym, ap, ◌∙◌, subst}
 use Rattle.std.proofs.lemmas.Option.{slice_get_read}
 use Rattle.tm_base.specs.declared.outcomes.Bar.{Bar}
-use Rattle.tm_text.specs.Exercises.{ExerciseView, own_of}
+use Rattle.tm_text.specs.Exercises.{ExerciseView}
 use Rattle.tm_replay.specs.Joint.{Joint}
 use Rattle.tm_replay.specs.Sound.{IsSoundJoint}
 use Rattle.tm_replay.specs.JointSteps.{MayIn}
-use Rattle.tm_replay.specs.Bars.{bars_of, is_over, is_stuck}
+use Rattle.tm_replay.specs.Bars.{bars_of}
 use Rattle.tm_session.specs.Scenes.{joint_of}
 use Rattle.tm_session.specs.Turns.{next_thread}
 use Rattle.tm_session.proofs.Choosing.{bars-count, some-chosen}
