@@ -16,13 +16,13 @@ pub find-range : (p : ℕ → Bool) (from n t : ℕ) → from ≤ t → t < from
 find-range p from zero t low high before here = absurd (omega (arith, low, high))
 find-range p from (suc n) t low high before here = ⊎_elim
     (λ (later : from < t).
-      let first : p from ≡ false = before from (omega arith) later in
-      ap (λ b. cond b (Some from) (find p (range_with_len (from + 1) n))) first
-      ∙ find-range p (from + 1) n t (omega (arith, later)) (omega (arith, high)) (λ k l h. before k (omega (arith, l)) h) here)
+    let first : p from ≡ false = before from (omega arith) later in
+    ap (λ b. cond b (Some from) (find p (range_with_len (from + 1) n))) first
+    ∙ find-range p (from + 1) n t (omega (arith, later)) (omega (arith, high)) (λ k l h. before k (omega (arith, l)) h) here)
     (λ (now : t ≤ from).
-      let same : from ≡ t = omega (arith, low, now) in
-      let first : p from ≡ true = ap p same ∙ here in
-      ap (λ b. cond b (Some from) (find p (range_with_len (from + 1) n))) first ∙ ap Some same)
+    let same : from ≡ t = omega (arith, low, now) in
+    let first : p from ≡ true = ap p same ∙ here in
+    ap (λ b. cond b (Some from) (find p (range_with_len (from + 1) n))) first ∙ ap Some same)
     (cases_lt from t)
 
 pub find-range_none : (p : ℕ → Bool) (from n : ℕ) → ((k : ℕ) → from ≤ k → k < from + n → p k ≡ false) → find p (range_with_len from n) ≡ None
@@ -107,17 +107,19 @@ none-runs bars last low h = all-from_each (λ b. not (is_runnable b)) bars (λ i
   where
     place : (i : ℕ) (b : Bar) → slice_get bars i ≡ Some b → slice_get bars (suc i - 1) ≡ Some b
     place i b at = let e : i ≡ suc i - 1 = omega arith in ap (slice_get bars) (sym e) ∙ at
+
     parts : (find (runs_at bars) (range_with_len (last + 1) (length bars - last)) ≡ None) × (find (runs_at bars) (range_with_len 1 last) ≡ None)
     parts = none_of_parts (runs_at bars) (range_with_len (last + 1) (length bars - last)) (range_with_len 1 last) h
+
     idle : (t : ℕ) → 1 ≤ t → t ≤ length bars → runs_at bars t ≡ false
     idle t program known = ⊎_elim
         (λ (after : last < t).
-          let at : last + 1 + (t - last - 1) ≡ t = omega (arith, after) in
-          find-none (runs_at bars) (range_with_len (last + 1) (length bars - last)) parts.0 (t - last - 1) t
-          (slice_get-range (last + 1) (length bars - last) (t - last - 1) (omega (arith, after, known)) ∙ ap Some at))
+        let at : last + 1 + (t - last - 1) ≡ t = omega (arith, after) in
+        find-none (runs_at bars) (range_with_len (last + 1) (length bars - last)) parts.0 (t - last - 1) t
+        (slice_get-range (last + 1) (length bars - last) (t - last - 1) (omega (arith, after, known)) ∙ ap Some at))
         (λ (upto : t ≤ last).
-          let at : 1 + (t - 1) ≡ t = omega (arith, program) in
-          find-none (runs_at bars) (range_with_len 1 last) parts.1 (t - 1) t (slice_get-range 1 last (t - 1) (omega (arith, program, upto)) ∙ ap Some at))
+        let at : 1 + (t - 1) ≡ t = omega (arith, program) in
+        find-none (runs_at bars) (range_with_len 1 last) parts.1 (t - 1) t (slice_get-range 1 last (t - 1) (omega (arith, program, upto)) ∙ ap Some at))
         (cases_lt last t)
 
 -- so where the state isn't stuck and a thread hasn't ended, one is chosen

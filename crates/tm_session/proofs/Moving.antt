@@ -117,12 +117,12 @@ module _ (x : ExerciseView) (j : Joint) (formed : IsWellFormed x) (sound : IsSou
           let s' : Some p.standing ≡ Some s = sym p.thread ∙ ap (slice_get j.standings) p.by ∙ seat in
           let same : p.standing ≡ s = cc in
           let may' : MayIn (own_of x.objects e.thread) p.standing.phase p.standing.rest e.object e.op =
-              subst (λ (u : ℕ). MayIn (own_of x.objects u) p.standing.phase p.standing.rest e.object e.op) (sym p.by)
-              (subst (λ (u : Standing). MayIn (own_of x.objects t) u.phase u.rest e.object e.op) (sym same)
-              (subst (λ (u : ℕ). MayIn (own_of x.objects t) s.phase s.rest u e.op) (sym p.on)
-              (subst (λ (u : Op). MayIn (own_of x.objects t) s.phase s.rest w.object u) (sym p.does) may))) in
+          subst (λ (u : ℕ). MayIn (own_of x.objects u) p.standing.phase p.standing.rest e.object e.op) (sym p.by)
+          (subst (λ (u : Standing). MayIn (own_of x.objects t) u.phase u.rest e.object e.op) (sym same)
+          (subst (λ (u : ℕ). MayIn (own_of x.objects t) s.phase s.rest u e.op) (sym p.on)
+          (subst (λ (u : Op). MayIn (own_of x.objects t) s.phase s.rest w.object u) (sym p.does) may))) in
           let within : KeepsLimit limit p.standing e.op =
-              subst (λ (u : Standing). KeepsLimit limit u e.op) (sym same) (subst (λ (u : Op). KeepsLimit limit s u) (sym p.does) keeps) in
+          subst (λ (u : Standing). KeepsLimit limit u e.op) (sym same) (subst (λ (u : Op). KeepsLimit limit s u) (sym p.does) keeps) in
           let step : JointStep x j e k = record {
             standing = p.standing;
             thread = p.thread;
@@ -156,6 +156,7 @@ module _ (x : ExerciseView) (j : Joint) (formed : IsWellFormed x) (sound : IsSou
       by_place : (o : Option Place) → slice_get j.objects object ≡ o → has_waiter o ≡ true → (b : Place) × (slice_get j.objects object ≡ Some b) × (is_some_queued (queued b.held.state.own) ≡ true)
       by_place None e h = absurd (false≢true h)
       by_place (Some b) e h = (b, e, h)
+
       running : (b : Place) → slice_get j.objects object ≡ Some b → is_some_queued (queued b.held.state.own) ≡ true → b.held.state.stopped ≡ false
       running b e h = by_test b.held.state.stopped refl
         where

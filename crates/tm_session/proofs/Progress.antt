@@ -67,6 +67,7 @@ module _ (x : ExerciseView) (j : Joint) (formed : IsWellFormed x) (sound : IsSou
     where
       own : object ≡ own_of x.objects t → object < length x.objects
       own e = subst (λ (n : ℕ). n < length x.objects) (sym e) (own_of-below x formed t program known)
+
       go : Does (own_of x.objects t) s.phase s.rest object o → object < length x.objects
       go (begins p e b) = own e
       go (ends p e cut b) = own e

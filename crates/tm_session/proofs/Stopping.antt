@@ -114,6 +114,7 @@ stuck-waited x j sound stuck none =
         by_place : (o : Option Place) → waits_in o t ≡ true → has_waiter o ≡ true
         by_place None h = absurd (false≢true h)
         by_place (Some b) h = queued-some (queued b.held.state.own) t h
+
     blocks : (t : ℕ) → bar_of j t ≡ bar.Blocked → ⊥
     blocks t h = by_seat (slice_get j.standings t) refl
       where
@@ -127,6 +128,7 @@ stuck-waited x j sound stuck none =
             by_test : (b : Bool) → waits_in (slice_get j.objects object) t ≡ b → (if b then bar.Blocked else bar.Granted) ≡ bar.Blocked → ⊥
             by_test true w h = at_object t object s seat e w
             by_test false w h = cc
+
         by_seat : (o : Option Standing) → slice_get j.standings t ≡ o → ⊥
         by_seat None e = let f : bar.Unborn ≡ bar.Blocked = sym (ap (bar_for j t) e) ∙ h in cc
         by_seat (Some s) e = by_phase s s.phase e refl (sym (ap (bar_for j t) e) ∙ h)

@@ -36,18 +36,24 @@ pub turned : (x : ExerciseView) (limit : ℕ) (p q : Turn) (e : Entry) → IsWel
 turned x limit p q e formed sound goes = go (due_stops p) (due-waited p.joint p.stops sound.waited) goes
   where
     go : (due : List ℕ) → AreWaited p.joint due → GoesBy x limit p due e q → JointStep x p.joint e q.joint × IsSoundTurn x q
-    go [] waited m = (m.step, record {
-      sound = IsSoundJoint-step x p.joint q.joint e formed sound.sound m.step;
-      last = rw m.last (omega (arith, slice_get_within p.joint.standings e.thread m.step.standing m.step.thread, sound.sound.thread_count));
-      waited = subst (AreWaited q.joint) (sym m.stops) tt;
-    })
-    go (object ∷ stops) waited h = (h.step, record {
-      sound = IsSoundJoint-step x p.joint q.joint e formed sound.sound h.step;
-      last = rw h.last sound.last;
-      waited = subst (AreWaited q.joint) (sym h.stops)
-        (waited-after p.joint q.joint object (entered h.step.spot e h.step.state)
-        (subst (λ (o : ℕ). q.joint.objects ≡ slice_set p.joint.objects o (entered h.step.spot e h.step.state)) h.object h.step.objects) stops waited.1 waited.2);
-    })
+    go [] waited m = (
+      m.step,
+      record {
+        sound = IsSoundJoint-step x p.joint q.joint e formed sound.sound m.step;
+        last = rw m.last (omega (arith, slice_get_within p.joint.standings e.thread m.step.standing m.step.thread, sound.sound.thread_count));
+        waited = subst (AreWaited q.joint) (sym m.stops) tt;
+      },
+    )
+    go (object ∷ stops) waited h = (
+      h.step,
+      record {
+        sound = IsSoundJoint-step x p.joint q.joint e formed sound.sound h.step;
+        last = rw h.last sound.last;
+        waited = subst (AreWaited q.joint) (sym h.stops)
+            (waited-after p.joint q.joint object (entered h.step.spot e h.step.state)
+            (subst (λ (o : ℕ). q.joint.objects ≡ slice_set p.joint.objects o (entered h.step.spot e h.step.state)) h.object h.step.objects) stops waited.1 waited.2);
+      },
+    )
 
 -- a turn keeps places and stamps below the number of events, and lowers the work that is left
 pub turn-counts : (x : ExerciseView) (limit n : ℕ) (p q : Turn) (e : Entry) → IsWellFormed x → IsSoundTurn x p → IsCounted n p.joint → Goes x limit p e q

@@ -5,14 +5,12 @@ ghost use Rattle.tm_replay.specs.Ends.{end_of, is_cut, is_cut_by_limit, named_of
 ghost use Rattle.tm_session.specs.Scenes.{joint_of};
 ghost use Rattle.tm_session.specs.Cuts.{test_of};
 
+use crate::scenes::Scene;
+use crate::seats::{Seat, is_stopped};
 use std::alloc::Global;
-
 use tm_base::{End, NoMemory};
 use tm_replay::Phase;
 use tm_text::Exercise;
-
-use crate::scenes::Scene;
-use crate::seats::{Seat, is_stopped};
 
 /// What cut a thread short.
 #[derive(Clone, Copy, Debug, PartialEq, Eq)]

@@ -9,13 +9,11 @@ ghost use Rattle.tm_book.specs.Made.{CanMake};
 ghost use Rattle.tm_replay.specs.Joint.{first_place};
 ghost use Rattle.tm_session.specs.Entering.{CanAnswer, IsEntered};
 
+use crate::moves::Move;
 use std::alloc::Global;
 use std::marker::Model;
-
 use tm_base::{Entry, Kind, Machine, NoMemory, Op, Reply};
 use tm_book::AnyMachine;
-
-use crate::moves::Move;
 
 /// An object: its machine, how many events it has had, and its last stamp.
 #[derive(Drop)]

@@ -5,14 +5,12 @@ ghost use Rattle.tm_replay.specs.JointSteps.{IsJointRun};
 ghost use Rattle.tm_session.specs.Pages.{IsAloneText, BeginsAloneText};
 ghost use Rattle.tm_session.specs.Sending.{IsSent};
 
+use crate::sessions::Session;
+use crate::turns::is_over;
 use std::alloc::Global;
-
 use tm_base::{End, Entries, NoMemory, Sequence};
 use tm_outside::Sink;
 use tm_text::Exercise;
-
-use crate::sessions::Session;
-use crate::turns::is_over;
 
 /// How many calls a thread may make.
 pub const CALLS: u32 = 1000;

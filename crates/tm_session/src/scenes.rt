@@ -5,16 +5,14 @@ ghost use Rattle.tm_replay.specs.Sound.{IsSoundJoint};
 ghost use Rattle.tm_replay.specs.Bars.{bar_in, bar_of, bars_of, waited_objects};
 ghost use Rattle.tm_session.specs.Scenes.{joint_of, CanPerform, CanShow, Performs};
 
-use std::alloc::Global;
-use std::collections::VecDeque;
-
-use tm_base::{Bar, Entry, NoMemory};
-use tm_replay::Phase;
-use tm_text::Exercise;
-
 use crate::moves::Wish;
 use crate::objects::Object;
 use crate::seats::Seat;
+use std::alloc::Global;
+use std::collections::VecDeque;
+use tm_base::{Bar, Entry, NoMemory};
+use tm_replay::Phase;
+use tm_text::Exercise;
 
 /// The objects and threads of a run: objects by number, and threads from `main`, which is thread 0.
 #[derive(Drop)]

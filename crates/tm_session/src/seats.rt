@@ -5,14 +5,12 @@ ghost use Rattle.tm_replay.specs.JointSteps.{stepped, MayIn, is_stopped, is_call
 ghost use Rattle.tm_session.specs.Turns.{KeepsLimit};
 ghost use Rattle.tm_session.specs.Seats.{AsksCalls, GoesOn, IsWithin, move_of};
 
+use crate::moves::{Move, Wish};
 use std::alloc::Global;
 use std::marker::Model;
-
 use tm_base::{Ask, Entry, NoMemory, Op, Reply};
 use tm_replay::Phase;
 use tm_text::{Exercise, Script};
-
-use crate::moves::{Move, Wish};
 
 /// Where a thread stands.
 #[derive(Drop)]

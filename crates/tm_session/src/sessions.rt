@@ -9,16 +9,14 @@ ghost use Rattle.tm_session.specs.Scenes.{joint_of};
 ghost use Rattle.tm_session.specs.Sessions.{IsUnderWay, HasSent};
 ghost use Rattle.tm_session.specs.Sending.{IsSent};
 
+use crate::endings::Ending;
+use crate::runs::Finished;
+use crate::turns::Run;
 use std::alloc::Global;
-
 use tm_base::{Bar, Entries, Entry, NoMemory, Sequence};
 use tm_outside::{Sink, write_all};
 use tm_text::Exercise;
 use tm_timeline::{last_line, row};
-
-use crate::endings::Ending;
-use crate::runs::Finished;
-use crate::turns::Run;
 
 /// A run that writes its rows: where it stands, the bars now, its events, and whether a write failed.
 #[derive(Drop)]
@@ -87,7 +85,7 @@ impl Session {
         ensures sent { IfOk result (λ f. (before : ℕ) (old : Option (List ℕ)) (rows : List ℕ)
             → IsSent self.failed before (K.fault_count sink.old) old (K.written sink.old) rows
             → IsSent f.write_fault before (K.fault_count sink.new) old (K.written sink.new)
-                (rows ++ last_line_of exercise.now f.end (length f.shown) f.cut)) }
+            (rows ++ last_line_of exercise.now f.end (length f.shown) f.cut)) }
         ensures kept { OnErr result (K.written sink.new ≡ K.written sink.old) }
         ensures never_falls { K.fault_count sink.old ≤ K.fault_count sink.new }
     {

@@ -8,14 +8,12 @@ ghost use Rattle.tm_session.specs.Scenes.{joint_of};
 ghost use Rattle.tm_session.specs.Running.{turn_of, IsRunning, HaltsAt, MovesOn};
 ghost use Rattle.tm_session.specs.Turns.{Goes, due_stops, first_turn, next_thread, runs_at, cyclic};
 
-use std::alloc::Global;
-use std::collections::VecDeque;
-
-use tm_base::{Bar, Entry, NoMemory, Op};
-use tm_text::Exercise;
-
 use crate::moves::Wish;
 use crate::scenes::Scene;
+use std::alloc::Global;
+use std::collections::VecDeque;
+use tm_base::{Bar, Entry, NoMemory, Op};
+use tm_text::Exercise;
 
 /// A run as far as it has come: all objects and threads, the thread that moved last (0 where none
 /// has), and the objects that `main` still has to stop.
@@ -77,12 +75,7 @@ impl Run {
     }
 
     /// Makes the list of objects that are due.
-    fn refill(
-        &mut self,
-        alloc: Global,
-        exercise: &Exercise,
-        bars: &[Bar],
-    ) -> Result<(), NoMemory>
+    fn refill(&mut self, alloc: Global, exercise: &Exercise, bars: &[Bar]) -> Result<(), NoMemory>
         requires running { IsRunning exercise.now self.old }
         requires bars { bars.now ≡ bars_of (joint_of self.old.scene) }
         ensures due { OnOk result (self.new.stops.items ≡ due_stops (turn_of self.old)) }

@@ -18,17 +18,17 @@ loop-thread-preserved c =
     let last : 1 + (t - 1) ≡ t = omega (arith, c.loop-thread.auto.thread) in
     let next : t - 1 + 1 ≡ t + 1 - 1 = omega (arith, c.loop-thread.auto.thread) in
     let found = slice_get_read items (length items) t c.index.result.now refl
-        (omega (arith, c.loop-thread-test.true, c.threads-thread-end.ensures.value, c.requires.thread_count)) c.index.ensures in
+    (omega (arith, c.loop-thread-test.true, c.threads-thread-end.ensures.value, c.requires.thread_count)) c.index.ensures in
     let test : p t ≡ c.was_cut.result = ap (test_of c.args.cut) found ∙ sym c.was_cut.ensures in
     let more = sym (ap (λ (n : ℕ). filter p (range_with_len 1 n)) next) ∙ filter-range_next p 1 (t - 1)
-      ∙ ap (λ (n : ℕ). filter p (range_with_len 1 (t - 1)) ++ (if p n then n ∷ [] else [])) last in
+    ∙ ap (λ (n : ℕ). filter p (range_with_len 1 (t - 1)) ++ (if p n then n ∷ [] else [])) last in
     elim c.if-was_cut.branch [
-      then-was_cut+in_ok-push w ↦
-        ap (λ q. q.items) w.threads-is ∙ w.in_ok-push.ensures.items ∙ ap (λ l. l ++ t ∷ []) c.loop-thread.invariant
-        ∙ sym (more ∙ ap (λ b. filter p (range_with_len 1 (t - 1)) ++ (if b then t ∷ [] else [])) (test ∙ w.if-was_cut.true))
+      | then-was_cut+in_ok-push w ↦
+          ap (λ q. q.items) w.threads-is ∙ w.in_ok-push.ensures.items ∙ ap (λ l. l ++ t ∷ []) c.loop-thread.invariant
+          ∙ sym (more ∙ ap (λ b. filter p (range_with_len 1 (t - 1)) ++ (if b then t ∷ [] else [])) (test ∙ w.if-was_cut.true))
       | else-was_cut w ↦
-        ap (λ q. q.items) w.threads-is ∙ c.loop-thread.invariant ∙ sym (append-nil (filter p (range_with_len 1 (t - 1))))
-        ∙ sym (more ∙ ap (λ b. filter p (range_with_len 1 (t - 1)) ++ (if b then t ∷ [] else [])) (test ∙ w.if-was_cut.false))
+          ap (λ q. q.items) w.threads-is ∙ c.loop-thread.invariant ∙ sym (append-nil (filter p (range_with_len 1 (t - 1))))
+          ∙ sym (more ∙ ap (λ b. filter p (range_with_len 1 (t - 1)) ++ (if b then t ∷ [] else [])) (test ∙ w.if-was_cut.false))
     ]
 
 whole : (c : After-loop-thread) → c.loop-thread.threads.items ≡ threads_where (test_of c.args.cut) (joint_of c.args.scene.now)
@@ -36,7 +36,7 @@ whole c =
     let j = joint_of c.args.scene.now in
     let high : c.loop-thread.thread ≤ c.threads-thread-end.result + 1 = c.loop-thread.auto.thread-end (omega arith) in
     let count : c.loop-thread.thread - 1 ≡ length j.standings - 1 =
-      omega (arith, c.loop-thread-test.false, high, c.threads-thread-end.ensures.value, c.requires.thread_count) in
+    omega (arith, c.loop-thread-test.false, high, c.threads-thread-end.ensures.value, c.requires.thread_count) in
     c.loop-thread.invariant ∙ ap (λ (n : ℕ). filter (λ t. test_of c.args.cut (slice_get j.standings t)) (range_with_len 1 n)) count
 
 pub returns-clause-threads : goal.returns-clause-threads

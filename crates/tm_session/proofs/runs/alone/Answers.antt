@@ -31,9 +31,10 @@ loop-session-init g c = record {
 pub returns-in_err-turn-clause-refused : goal.returns-in_err-turn-clause-refused
 returns-in_err-turn-clause-refused g c =
     let text = begun-text c.args.exercise.now 1000 c.loop-session.session (g.K.Sink.fault_count c.args.sink.now) (g.K.Sink.fault_count c.loop-session.sink)
-      (g.K.Sink.written c.args.sink.now) (g.K.Sink.written c.loop-session.sink) c.loop-session.invariant.under_way c.loop-session.invariant.sent in
+    (g.K.Sink.written c.args.sink.now) (g.K.Sink.written c.loop-session.sink) c.loop-session.invariant.under_way c.loop-session.invariant.sent in
     on_err c.from_residual-in_err-turn.result (
-      text.0, text.1,
+      text.0,
+      text.1,
       subst (λ (new : Option (List ℕ)). AppendsPrefix (g.K.Sink.written c.args.sink.now) new text.0) (sym c.in_err-turn.ensures.kept) text.2,
     )
 
@@ -49,8 +50,8 @@ returns-clause-legal g c =
 pub returns-clause-refused : goal.returns-clause-refused
 returns-clause-refused g c =
     let text = begun-text c.args.exercise.now 1000 c.loop-session.session (g.K.Sink.fault_count c.args.sink.now) (g.K.Sink.fault_count c.loop-session.sink)
-      (g.K.Sink.written c.args.sink.now) (g.K.Sink.written c.loop-session.sink) c.loop-session.invariant.under_way c.loop-session.invariant.sent in
+    (g.K.Sink.written c.args.sink.now) (g.K.Sink.written c.loop-session.sink) c.loop-session.invariant.under_way c.loop-session.invariant.sent in
     on_err_by c.finish.result
     (λ (kept : g.K.Sink.written c.finish.new.sink ≡ g.K.Sink.written c.loop-session.sink).
-      (text.0, text.1, subst (λ (new : Option (List ℕ)). AppendsPrefix (g.K.Sink.written c.args.sink.now) new text.0) (sym kept) text.2))
+    (text.0, text.1, subst (λ (new : Option (List ℕ)). AppendsPrefix (g.K.Sink.written c.args.sink.now) new text.0) (sym kept) text.2))
     c.finish.ensures.kept

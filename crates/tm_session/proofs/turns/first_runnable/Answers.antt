@@ -13,8 +13,8 @@ pub loop-thread-preserved : goal.loop-thread-preserved
 loop-thread-preserved c = λ k low high. ⊎_elim
     (λ (before : k < c.loop-thread.thread). c.loop-thread.invariant k low before)
     (λ (here : c.loop-thread.thread ≤ k).
-      let same : k ≡ c.loop-thread.thread = omega (arith, here, high) in
-      ap (runs_at c.args.bars.now) same ∙ sym c.runs.ensures ∙ c.if-runs.false)
+    let same : k ≡ c.loop-thread.thread = omega (arith, here, high) in
+    ap (runs_at c.args.bars.now) same ∙ sym c.runs.ensures ∙ c.if-runs.false)
     (cases_lt k c.loop-thread.thread)
 
 pub returns : goal.returns

@@ -12,14 +12,14 @@ loop-object-preserved c =
     let o = c.loop-object.object in
     let p = λ (n : ℕ). has_waiter (slice_get items n) in
     let found = slice_get_read items (length items) o c.index.result.now refl
-        (omega (arith, c.loop-object-test.true, c.objects-object-end.ensures.value, c.requires.object_count)) c.index.ensures in
+    (omega (arith, c.loop-object-test.true, c.objects-object-end.ensures.value, c.requires.object_count)) c.index.ensures in
     let test : p o ≡ c.has_waiter.result = ap has_waiter found ∙ sym c.has_waiter.ensures in
     let more = filter-range_more p o in
     elim c.if-has_waiter.branch [
-      then-has_waiter+in_ok-push_back w ↦
-        ap (λ q. q.items) w.waited-is ∙ w.in_ok-push_back.ensures.items ∙ ap (λ l. l ++ o ∷ []) c.loop-object.invariant
-        ∙ sym (more ∙ ap (λ b. filter p (range_with_len 0 o) ++ (if b then o ∷ [] else [])) (test ∙ w.if-has_waiter.true))
+      | then-has_waiter+in_ok-push_back w ↦
+          ap (λ q. q.items) w.waited-is ∙ w.in_ok-push_back.ensures.items ∙ ap (λ l. l ++ o ∷ []) c.loop-object.invariant
+          ∙ sym (more ∙ ap (λ b. filter p (range_with_len 0 o) ++ (if b then o ∷ [] else [])) (test ∙ w.if-has_waiter.true))
       | else-has_waiter w ↦
-        ap (λ q. q.items) w.waited-is ∙ c.loop-object.invariant ∙ sym (append-nil (filter p (range_with_len 0 o)))
-        ∙ sym (more ∙ ap (λ b. filter p (range_with_len 0 o) ++ (if b then o ∷ [] else [])) (test ∙ w.if-has_waiter.false))
+          ap (λ q. q.items) w.waited-is ∙ c.loop-object.invariant ∙ sym (append-nil (filter p (range_with_len 0 o)))
+          ∙ sym (more ∙ ap (λ b. filter p (range_with_len 0 o) ++ (if b then o ∷ [] else [])) (test ∙ w.if-has_waiter.false))
     ]

@@ -80,7 +80,7 @@ returns-clause-under_way g c =
       bounded = omega (arith, len, counts.1, way.bounded);
       bars = c.in_ok-self.ensures;
       begins = subst (λ (es : List Entry). BeginsAlone x c.args.limit es next) (sym c.in_ok-push.ensures.items)
-        (Leads-snoc (Goes x c.args.limit) old.shown.items e (first_turn x) (turn_of old.run) next way.begins c.in_ok-entry.ensures);
+          (Leads-snoc (Goes x c.args.limit) old.shown.items e (first_turn x) (turn_of old.run) next way.begins c.in_ok-entry.ensures);
     }
 
 pub returns-clause-falls : goal.returns-clause-falls
@@ -88,7 +88,7 @@ returns-clause-falls g c =
     let way = c.requires.under_way in
     let old = c.args.self.now in
     let counts = turn-counts c.args.exercise.now c.args.limit (length old.shown.items) (turn_of old.run) (turn_of c.go.new.self) c.in_ok-entry.entry way.formed
-      (sound_turn c.args.exercise.now c.args.limit old way) way.counted c.in_ok-entry.ensures in
+    (sound_turn c.args.exercise.now c.args.limit old way) way.counted c.in_ok-entry.ensures in
     omega (arith, counts.1)
 
 pub returns-clause-sent : goal.returns-clause-sent
@@ -104,11 +104,11 @@ returns-clause-sent g c before was h =
     let count : c.len-count.result ≡ h.page.count + 1 = omega (arith, c.len-count.ensures, len, h.count) in
     let bars : c.as_slice-2.result.now ≡ bars_of next.joint = c.as_slice-2.ensures.value ∙ c.in_ok-self.ensures in
     let line : c.as_slice-3.result.now ≡ row_of x (h.page.count + 1) e (bars_of next.joint) =
-      c.as_slice-3.ensures ∙ c.in_ok-line.ensures ∙ ap (λ (n : ℕ). row_of x n e c.as_slice-2.result.now) count ∙ ap (λ (b : List Bar). row_of x (h.page.count + 1) e b) bars in
+    c.as_slice-3.ensures ∙ c.in_ok-line.ensures ∙ ap (λ (n : ℕ). row_of x n e c.as_slice-2.result.now) count ∙ ap (λ (b : List Bar). row_of x (h.page.count + 1) e b) bars in
     record {
       page = record { joint = next.joint; count = h.page.count + 1; rows = h.page.rows ++ c.as_slice-3.result.now };
       rows = subst (λ (es : List Entry). AreRows x es (record { joint = next.joint; count = h.page.count + 1; rows = h.page.rows ++ c.as_slice-3.result.now })) (sym c.in_ok-push.ensures.items)
-        (AreRows-snoc x old.shown.items e h.page next.joint c.as_slice-3.result.now h.rows step' line);
+          (AreRows-snoc x old.shown.items e h.page next.joint c.as_slice-3.result.now h.rows step' line);
       same = refl;
       count = ap (λ (n : ℕ). n + 1) h.count ∙ sym len;
       sent = c.send-self.ensures.sent before was h.page.rows h.sent;

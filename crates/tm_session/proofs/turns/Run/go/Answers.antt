@@ -16,7 +16,7 @@ halt-requires c =
     let due = rw c.in-Some.is at c.in_ok-object.ensures.due in
     let same : joint_of c.due.new.self.scene ≡ old = ap joint_of c.in_ok-object.ensures.scene in
     let waited : AreWaited old (c.in-Some.object ∷ c.due.new.self.stops.items) =
-      subst (AreWaited old) due (due-waited old c.args.self.now.stops.items c.requires.running.waited) in
+    subst (AreWaited old) due (due-waited old c.args.self.now.stops.items c.requires.running.waited) in
     record {
       formed = c.requires.running.formed;
       sound = subst (IsSoundJoint x) (sym same) c.requires.running.sound;

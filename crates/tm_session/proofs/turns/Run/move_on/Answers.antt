@@ -40,7 +40,7 @@ next_runnable-requires-clause-known c =
 pub unreachable-requires : goal.unreachable-requires
 unreachable-requires c =
     let few : c.args.self.now.last ≤ length c.args.bars.now =
-      omega (arith, count c.args.exercise.now (joint_of c.args.self.now.scene) c.args.bars.now c.requires.running.sound c.requires.bars, c.requires.running.last) in
+    omega (arith, count c.args.exercise.now (joint_of c.args.self.now.scene) c.args.bars.now c.requires.running.sound c.requires.bars, c.requires.running.last) in
     some-chosen c.args.bars.now c.args.self.now.last few c.requires.going c.requires.free (sym c.in_default.ensures)
 
 pub own-own-requires-clause-program : goal.own-own-requires-clause-program
@@ -76,9 +76,9 @@ pub returns : goal.returns
 returns c =
     let d = (goal.at.returns c).After-index in
     let moved = chosen-step c.args.exercise.now (joint_of c.args.self.now.scene) c.requires.running.formed c.requires.running.sound c.in-Some.thread c.index.result.now
-        (is_chosen (goal.at.returns c).In-Some) (seat_of d (is_chosen (goal.at.returns c).In-Some).within) c.wish-wish.result
-        (subst (λ (own : ℕ). MayIn own c.index.result.now.phase c.index.result.now.rest c.wish-wish.result.object c.wish-wish.result.op) c.own-own.ensures c.wish-wish.ensures.may)
-        (joint_of c.perform.new.self) c.perform.result c.perform.ensures c.args.limit c.wish-wish.ensures.limit in
+    (is_chosen (goal.at.returns c).In-Some) (seat_of d (is_chosen (goal.at.returns c).In-Some).within) c.wish-wish.result
+    (subst (λ (own : ℕ). MayIn own c.index.result.now.phase c.index.result.now.rest c.wish-wish.result.object c.wish-wish.result.op) c.own-own.ensures c.wish-wish.ensures.may)
+    (joint_of c.perform.new.self) c.perform.result c.perform.ensures c.args.limit c.wish-wish.ensures.limit in
     record {
       step = moved.0;
       chosen = ap (λ bars. next_thread bars c.args.self.now.last) (sym c.requires.bars) ∙ sym c.in-Some.ensures ∙ ap Some (sym c.perform.ensures.by);
