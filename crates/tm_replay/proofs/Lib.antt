@@ -4,3 +4,4 @@ pub mod Moves
 pub mod Soundness
 pub mod Falling
 pub mod Starts
+pub mod Histories

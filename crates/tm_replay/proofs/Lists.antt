@@ -1,5 +1,8 @@
--- One element of a list is set.
-use Rattle.std.proofs.Common.{◌≡◌, ◌≢◌, ℕ, zero, suc, ◌<◌, ◌⊎◌, inl, inr, ⊎_elim, List, [], ◌∷◌, Some, slice_get, slice_set, length, refl, ap, arith}
+-- One element of a list is set, or stands at the end.
+use Rattle.std.proofs.Common.{◌≡◌, ◌≢◌, ℕ, zero, suc, ◌+◌, ◌<◌, Bool, true, false, cond, ◌⊎◌, inl, inr, ⊎_elim, List, [], ◌∷◌, ◌++◌, filter, Some, slice_get, slice_set, length, refl, ap, ◌∙◌, arith}
+use Rattle.std.specs.List.{range_with_len}
+use Rattle.std.proofs.lemmas.List.{append-nil}
+use Rattle.std.proofs.lemmas.List.Elements.{filter-append}
 
 -- what stands at a place of the list: the value, at the place that was set, or what stood there
 pub slice_get-set_cases : {A : Type 0} (xs : List A) (i k : ℕ) (v y : A) → slice_get (slice_set xs i v) k ≡ Some y → ((k ≡ i) × (y ≡ v)) ⊎ ((k ≢ i) × (slice_get xs k ≡ Some y))
@@ -14,3 +17,19 @@ pub slice_get-set_same : {A : Type 0} (xs : List A) (i : ℕ) (v : A) → i < le
 slice_get-set_same [] i v h = absurd (omega (arith, h))
 slice_get-set_same (x ∷ xs) zero v h = refl
 slice_get-set_same (x ∷ xs) (suc i) v h = slice_get-set_same xs i v (omega (arith, h))
+
+-- one more at the end, which passes the test or doesn't
+pub filter-snoc_in : {A : Type 0} (p : A → Bool) (xs : List A) (x : A) → p x ≡ true → filter p (xs ++ x ∷ []) ≡ filter p xs ++ x ∷ []
+filter-snoc_in p xs x h = filter-append p xs (x ∷ []) ∙ ap (λ b. filter p xs ++ cond b (x ∷ []) []) h
+
+pub filter-snoc_out : {A : Type 0} (p : A → Bool) (xs : List A) (x : A) → p x ≡ false → filter p (xs ++ x ∷ []) ≡ filter p xs
+filter-snoc_out p xs x h = filter-append p xs (x ∷ []) ∙ ap (λ b. filter p xs ++ cond b (x ∷ []) []) h ∙ append-nil (filter p xs)
+
+-- a range, and the number after it
+pub range-snoc : (a n : ℕ) → range_with_len a (suc n) ≡ range_with_len a n ++ (a + n) ∷ []
+range-snoc a zero =
+    let first : a ≡ a + 0 = omega arith in
+    ap (λ k. k ∷ []) first
+range-snoc a (suc n) =
+    let next : a + 1 + n ≡ a + suc n = omega arith in
+    ap (λ l. a ∷ l) (range-snoc (a + 1) n) ∙ ap (λ k. a ∷ (range_with_len (a + 1) n ++ k ∷ [])) next

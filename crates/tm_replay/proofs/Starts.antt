@@ -17,7 +17,7 @@ use Rattle.tm_replay.specs.Sound.{IsSoundJoint, IsPlaced, IsStanding, is_begun, 
 use Rattle.tm_replay.specs.Work.{IsCounted, work_of, stop_of, work}
 
 -- what a mapped list has at a place comes from what the list has there
-mapped-at : {A B : Type 0} (v : A → B) (xs : List A) (i : ℕ) (y : B) → slice_get (map v xs) i ≡ Some y → (x : A) × (slice_get xs i ≡ Some x) × (v x ≡ y)
+pub mapped-at : {A B : Type 0} (v : A → B) (xs : List A) (i : ℕ) (y : B) → slice_get (map v xs) i ≡ Some y → (x : A) × (slice_get xs i ≡ Some x) × (v x ≡ y)
 mapped-at v [] i y h = absurd cc
 mapped-at v (x ∷ xs) zero y h = (x, refl, cc)
 mapped-at v (x ∷ xs) (suc i) y h = mapped-at v xs i y h

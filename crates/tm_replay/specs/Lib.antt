@@ -4,3 +4,4 @@ pub mod Bars
 pub mod Ends
 pub mod Sound
 pub mod Work
+pub mod Histories

@@ -3,4 +3,18 @@
 
 mod phases;
 
+ghost use Rattle.tm_replay.specs.Histories.{ObjectsHaveHistories, ThreadsHavePlaces};
+
 pub use phases::Phase;
+
+/// In a joint run the events of each object, in their order, are a legal history of it: they are
+/// numbered from 1, their stamps rise, and they leave the state in which the run has the object.
+pub fn objects_have_histories()
+    ensures { ObjectsHaveHistories }
+{}
+
+/// In a joint run the events of each thread, in their order, have the places 1, 2, 3 and so on, and
+/// the place of its next event is one more than their number.
+pub fn threads_have_places()
+    ensures { ThreadsHavePlaces }
+{}

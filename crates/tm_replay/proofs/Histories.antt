@@ -1,0 +1,115 @@
+-- Each object of a joint run has a legal history, and each thread its places in order.
+use Rattle.std.proofs.Common.{◌≡◌, ◌≢◌, ℕ, zero, suc, ◌+◌, ◌==◌, ⊎_elim, List, [], ◌∷◌, ◌++◌, map, length, Some, slice_get, slice_set, refl, ap, sym, ◌∙◌, subst, arith, eq-eqb, ne_eqb, length-append}
+use Rattle.std.specs.List.{range_with_len}
+use Rattle.std.proofs.lemmas.List.{append-nil, append_assoc, map-append}
+use Rattle.tm_base.specs.declared.events.Entry.{Entry}
+use Rattle.tm_base.specs.Histories.{Label, Follows, IsHistory, first_point}
+use Rattle.tm_base.specs.Orders.{of_object, of_thread}
+use Rattle.tm_base.specs.Runs.{Leads}
+use Rattle.tm_laws.proofs.Runs.{Leads-snoc}
+use Rattle.tm_text.specs.declared.exercises.Declared.{Declared}
+use Rattle.tm_text.specs.Exercises.{ExerciseView}
+use Rattle.tm_replay.specs.declared.phases.Phase.TheVariants as phase
+use Rattle.tm_replay.specs.Joint.{Joint, Standing, Place, start, first_place, first_standing}
+use Rattle.tm_replay.specs.JointSteps.{JointStep, IsJointRun, stepped, entered}
+use Rattle.tm_replay.specs.Histories.{label_at, point_at}
+use Rattle.tm_replay.proofs.Lists.{slice_get-set_cases, filter-snoc_in, filter-snoc_out, range-snoc}
+use Rattle.tm_replay.proofs.Starts.{mapped-at}
+
+-- what holds of no events, and what each event keeps, holds of a run's events and what they leave
+runs-keep : (x : ExerciseView) (Holds : List Entry → Joint → Type 0)
+    → ((before : List Entry) (j : Joint) (e : Entry) (k : Joint) → Holds before j → JointStep x j e k → Holds (before ++ e ∷ []) k)
+    → (es before : List Entry) (j k : Joint) → Holds before j → Leads (JointStep x) j es k → Holds (before ++ es) k
+runs-keep x Holds keep [] before j k holds run =
+    subst (λ (l : List Entry). Holds l k) (sym (append-nil before)) (subst (Holds before) (sym run) holds)
+runs-keep x Holds keep (e ∷ es) before j k holds run =
+    subst (λ (l : List Entry). Holds l k) (append_assoc before (e ∷ []) es)
+    (runs-keep x Holds keep es (before ++ e ∷ []) run.0 k (keep before j e run.0 holds run.1) run.2)
+
+abbrev HaveHistories : List Entry → Joint → Type 0
+HaveHistories es j = (o : ℕ) (b : Place) → slice_get j.objects o ≡ Some b → IsHistory (label_at o b.held) (of_object es o) (point_at b)
+
+histories-start : (x : ExerciseView) → HaveHistories [] (start x)
+histories-start x o b h =
+    let at = mapped-at (λ (d : Declared). first_place (length x.programs) d.kind) x.objects o b h in
+    subst (λ (c : Place). IsHistory (label_at o c.held) [] (point_at c)) at.2 refl
+
+-- the step's event is the next one of its object's history
+step-follows : (x : ExerciseView) (j : Joint) (e : Entry) (k : Joint) (step : JointStep x j e k)
+    → Follows (label_at e.object step.spot.held) (point_at step.spot) e (point_at (entered step.spot e step.state))
+step-follows x j e k step = record {
+  object = refl;
+  at = step.at;
+  rises = omega (arith, step.stamp);
+  lawful = step.lawful;
+  now_at = refl;
+  now_stamp = refl;
+}
+
+histories-step : (x : ExerciseView) (es : List Entry) (j : Joint) (e : Entry) (k : Joint) → HaveHistories es j → JointStep x j e k → HaveHistories (es ++ e ∷ []) k
+histories-step x es j e k holds step o c h =
+    let b : Place = step.spot in
+    let b' : Place = entered b e step.state in
+    let l : Label = label_at e.object b.held in
+    let h' : slice_get (slice_set j.objects e.object b') o ≡ Some c = subst (λ (bs : List Place). slice_get bs o ≡ Some c) step.objects h in
+    ⊎_elim
+    (λ (same : (o ≡ e.object) × (c ≡ b')).
+    subst (λ (n : ℕ). IsHistory (label_at n c.held) (of_object (es ++ e ∷ []) n) (point_at c)) (sym same.0)
+    (subst (λ (d : Place). IsHistory (label_at e.object d.held) (of_object (es ++ e ∷ []) e.object) (point_at d)) (sym same.1)
+    (subst (λ (own : List Entry). IsHistory l own (point_at b')) (sym (filter-snoc_in (λ (f : Entry). f.object == e.object) es e (eq-eqb e.object e.object refl)))
+    (Leads-snoc (Follows l) (of_object es e.object) e (first_point l) (point_at b) (point_at b') (holds e.object b step.object) (step-follows x j e k step)))))
+    (λ (other : (o ≢ e.object) × (slice_get j.objects o ≡ Some c)).
+    subst (λ (own : List Entry). IsHistory (label_at o c.held) own (point_at c))
+    (sym (filter-snoc_out (λ (f : Entry). f.object == o) es e (ne_eqb e.object o (λ q. other.0 (sym q)))))
+    (holds o c other.1))
+    (slice_get-set_cases j.objects e.object o b' c h')
+
+pub objects-have_histories : (x : ExerciseView) (es : List Entry) (j : Joint) → IsJointRun x es j → HaveHistories es j
+objects-have_histories x es j run = runs-keep x HaveHistories (histories-step x) es [] (start x) j (histories-start x) run
+
+-- the places of these events run from 1, and this is the next
+abbrev RunFromOne : List Entry → ℕ → Type 0
+RunFromOne own next = (map (λ e. e.place) own ≡ range_with_len 1 (length own)) × (next ≡ suc (length own))
+
+abbrev HavePlaces : List Entry → Joint → Type 0
+HavePlaces es j = (t : ℕ) (s : Standing) → slice_get j.standings t ≡ Some s → RunFromOne (of_thread es t) s.next
+
+places-start : (x : ExerciseView) → HavePlaces [] (start x)
+places-start x zero s h =
+    let main : first_standing phase.Main [] ≡ s = cc in
+    subst (λ (r : Standing). RunFromOne [] r.next) main (refl, refl)
+places-start x (suc t) s h =
+    subst (λ (r : Standing). RunFromOne [] r.next) (mapped-at (first_standing phase.NotBegun) x.programs t s h).2 (refl, refl)
+
+-- an event with the next place goes on with them
+RunFromOne-snoc : (own : List Entry) (next : ℕ) (e : Entry) → e.place ≡ next → RunFromOne own next → RunFromOne (own ++ e ∷ []) (e.place + 1)
+RunFromOne-snoc own next e place runs =
+    let longer : length (own ++ e ∷ []) ≡ suc (length own) = length-append own (e ∷ []) ∙ omega arith in
+    let last : e.place ≡ 1 + length own = omega (arith, place, runs.1) in (
+      map-append (λ f. f.place) own (e ∷ [])
+          ∙ ap (λ (l : List ℕ). l ++ e.place ∷ []) runs.0
+          ∙ ap (λ (n : ℕ). range_with_len 1 (length own) ++ n ∷ []) last
+          ∙ sym (range-snoc 1 (length own))
+          ∙ ap (range_with_len 1) (sym longer),
+      omega (arith, longer, last),
+    )
+
+places-step : (x : ExerciseView) (es : List Entry) (j : Joint) (e : Entry) (k : Joint) → HavePlaces es j → JointStep x j e k → HavePlaces (es ++ e ∷ []) k
+places-step x es j e k holds step t r h =
+    let s : Standing = step.standing in
+    let s' : Standing = stepped s e in
+    let h' : slice_get (slice_set j.standings e.thread s') t ≡ Some r = subst (λ (l : List Standing). slice_get l t ≡ Some r) step.standings h in
+    ⊎_elim
+    (λ (same : (t ≡ e.thread) × (r ≡ s')).
+    subst (λ (n : ℕ). RunFromOne (of_thread (es ++ e ∷ []) n) r.next) (sym same.0)
+    (subst (λ (u : Standing). RunFromOne (of_thread (es ++ e ∷ []) e.thread) u.next) (sym same.1)
+    (subst (λ (own : List Entry). RunFromOne own (e.place + 1)) (sym (filter-snoc_in (λ (f : Entry). f.thread == e.thread) es e (eq-eqb e.thread e.thread refl)))
+    (RunFromOne-snoc (of_thread es e.thread) s.next e step.place (holds e.thread s step.thread)))))
+    (λ (other : (t ≢ e.thread) × (slice_get j.standings t ≡ Some r)).
+    subst (λ (own : List Entry). RunFromOne own r.next)
+    (sym (filter-snoc_out (λ (f : Entry). f.thread == t) es e (ne_eqb e.thread t (λ q. other.0 (sym q)))))
+    (holds t r other.1))
+    (slice_get-set_cases j.standings e.thread t s' r h')
+
+pub threads-have_places : (x : ExerciseView) (es : List Entry) (j : Joint) → IsJointRun x es j → HavePlaces es j
+threads-have_places x es j run = runs-keep x HavePlaces (places-step x) es [] (start x) j (places-start x) run
