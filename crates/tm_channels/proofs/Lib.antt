@@ -1,1 +1,2 @@
 pub mod ThreadLemmas
+pub mod Joins

@@ -1,9 +1,17 @@
 //! Objects over which threads meet, as textbooks define them.
 #![tactic(auto)]
 
+ghost use Rattle.tm_channels.specs.Joins.{JoinsAfterEnd};
+
 mod thread_objects;
 
 pub use thread_objects::ThreadM;
+
+/// In every legal history of a thread object a `join` is answered `ok`, at once or after it waited,
+/// only after the thread's `end`.
+pub fn joins_come_after_the_end()
+    ensures { JoinsAfterEnd }
+{}
 
 #[cfg(test)]
 mod tests {

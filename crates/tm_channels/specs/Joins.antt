@@ -1,0 +1,25 @@
+-- When a thread's `join` succeeds.
+use Rattle.std.specs.Prelude.{◌≡◌, ◌≢◌, ℕ, Bool, true, List, ◌∷◌, ◌++◌, Contains, ◌⊎◌}
+use Rattle.tm_base.specs.declared.operations.Op.TheVariants as op
+use Rattle.tm_base.specs.declared.replies.Reply.TheVariants as reply
+use Rattle.tm_base.specs.declared.kinds.Kind.TheVariants as kind
+use Rattle.tm_base.specs.declared.events.Entry.{Entry}
+use Rattle.tm_base.specs.Histories.{Label, Point, IsHistory}
+use Rattle.tm_laws.specs.ThreadObjects.{is_end}
+
+-- The event answers a `join` with `ok` on the object of the thread `own`: at once, or by a resume
+-- after it waited. Only `begin` and `join` can wait there. The own thread alone begins, and never
+-- waits in a `join`, since it gets `myself` there. So a resume is the answer to a `join` exactly if
+-- another thread makes it.
+abbrev pub IsJoined : ℕ → Entry → Type 0
+IsJoined own e =
+    ((e.op ≡ op.Join) × (e.reply ≡ reply.Ok)) ⊎ ((e.op ≡ op.Resume) × (e.thread ≢ own) × (e.reply ≡ reply.Ok))
+
+-- In every legal history of a thread object an `end` stands before each event that answers a `join`
+-- with `ok`.
+abbrev pub JoinsAfterEnd : Type 0
+JoinsAfterEnd =
+    (l : Label) (own : ℕ) (held : Bool) (es : List Entry) (p : Point) →
+    l.kind ≡ kind.Thread own held → IsHistory l es p →
+    (front back : List Entry) (e : Entry) → es ≡ front ++ e ∷ back → IsJoined own e →
+    (a : Entry) × Contains front a × (is_end a.op ≡ true)
