@@ -96,7 +96,7 @@ module _ (x : ExerciseView) where
   counted-place o b h = subst (λ (c : Place). (c.at ≤ 0) × (c.stamp ≤ 0)) (place-at o b h).2 (omega arith, omega arith)
 
   -- the work of a thread that hasn't begun, by the length of its program
-  work-thread : IsWellFormed x → (t : ℕ) (p : List Statement) → slice_get x.programs t ≡ Some p → work_of (first_standing phase.NotBegun p) ≤ 2003
+  work-thread : IsWellFormed x → (t : ℕ) (p : List Statement) → slice_get x.programs t ≡ Some p → work_of (first_standing phase.NotBegun p) ≤ 8195
   work-thread formed t p h = omega (arith, formed.short (suc t), ap length (program-at t p h))
 
 -- nothing yet is a sound joint state
@@ -113,13 +113,13 @@ IsSoundJoint-start x formed = record {
 pub IsCounted-start : (x : ExerciseView) → IsCounted 0 (start x)
 IsCounted-start x = record { standings = counted-standing x; objects = counted-place x }
 
--- an exercise's sizes bound the work: 64 threads of 1,000 statements, and 256 objects to stop
+-- an exercise's sizes bound the work: 64 threads of 4,096 statements, and 256 objects to stop
 pub work-start : (x : ExerciseView) → IsWellFormed x → work (start x) ≤ 1000000
 work-start x formed = omega (
   arith,
   formed.few_threads,
   formed.few_objects,
   sum_by-cons work_of (first_standing phase.Main []) (map (first_standing phase.NotBegun) x.programs),
-  mapped-sum (first_standing phase.NotBegun) work_of 2003 x.programs (work-thread x formed),
+  mapped-sum (first_standing phase.NotBegun) work_of 8195 x.programs (work-thread x formed),
   mapped-sum (place_of x) stop_of 1 x.objects (λ _ _ _. omega arith),
 )

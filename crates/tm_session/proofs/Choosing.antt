@@ -1,15 +1,16 @@
 -- The thread that moves next.
-use Rattle.std.proofs.Common.{◌≡◌, ◌≢◌, ℕ, zero, suc, ◌+◌, ◌-◌, ◌<◌, ◌≤◌, Bool, true, false, not, ◌&&◌, ⊎_elim, cond, List, [], ◌∷◌, ◌++◌, map, length, find, Option, Some, None, slice_get, get_or, refl, ap, sym, ◌∙◌, arith}
+use Rattle.std.proofs.Common.{◌≡◌, ◌≢◌, ℕ, zero, suc, ◌+◌, ◌-◌, ◌/◌, ◌%◌, ◌^◌, ◌==◌, if◌then◌else◌, ◌<◌, ◌≤◌, Bool, true, false, not, ◌&&◌, ⊎_elim, cond, List, [], ◌∷◌, ◌++◌, map, length, filter, find, Option, Some, None, slice_get, get_or, refl, ap, sym, ◌∙◌, arith}
 use Rattle.std.specs.List.{range_with_len, list_all}
 use Rattle.std.specs.Option.{option_map, option_or}
 use Rattle.std.proofs.lemmas.Bool.{false≢true, cases_lt}
 use Rattle.std.proofs.lemmas.List.FromFn.{length-range_with_len}
 use Rattle.std.proofs.lemmas.List.Folds.{find-append}
+use Rattle.std.proofs.Math.Nat.{mod-lt}
 use Rattle.std.proofs.lemmas.Option.{slice_get-map, slice_get_within, slice_get-get_or}
 use Rattle.tm_base.specs.declared.outcomes.Bar.{Bar}
 use Rattle.tm_replay.specs.Joint.{Joint}
 use Rattle.tm_replay.specs.Bars.{bar_of, bars_of, is_runnable, is_over, is_stuck}
-use Rattle.tm_session.specs.Turns.{runs_at, is_runnable_bar, next_thread}
+use Rattle.tm_session.specs.Choices.{runs_at, is_runnable_bar, next_thread, runnable_threads, picked, chosen_thread, cyclic}
 
 -- the first number of a range that passes
 pub find-range : (p : ℕ → Bool) (from n t : ℕ) → from ≤ t → t < from + n → ((k : ℕ) → from ≤ k → k < t → p k ≡ false) → p t ≡ true → find p (range_with_len from n) ≡ Some t
@@ -122,10 +123,69 @@ none-runs bars last low h = all-from_each (λ b. not (is_runnable b)) bars (λ i
         find-none (runs_at bars) (range_with_len 1 last) parts.1 (t - 1) t (slice_get-range 1 last (t - 1) (omega (arith, program, upto)) ∙ ap Some at))
         (cases_lt last t)
 
+-- what a filter keeps passes
+filter-passes : {A : Type 0} (p : A → Bool) (xs : List A) (i : ℕ) (x : A) → slice_get (filter p xs) i ≡ Some x → p x ≡ true
+filter-passes p [] i x h = absurd cc
+filter-passes p (y ∷ xs) i x h = go (p y) refl h (λ k there. filter-passes p xs k x there) i h
+  where
+    go : (b : Bool) → p y ≡ b → slice_get (cond (p y) (y ∷ filter p xs) (filter p xs)) i ≡ Some x → ((k : ℕ) → slice_get (filter p xs) k ≡ Some x → p x ≡ true)
+        → (k : ℕ) → slice_get (cond (p y) (y ∷ filter p xs) (filter p xs)) k ≡ Some x → p x ≡ true
+    go false e at later k there = later k (sym (ap (λ b. slice_get (cond b (y ∷ filter p xs) (filter p xs)) k) e) ∙ there)
+    go true e at later k there = kept k (sym (ap (λ b. slice_get (cond b (y ∷ filter p xs) (filter p xs)) k) e) ∙ there)
+      where
+        kept : (k : ℕ) → slice_get (y ∷ filter p xs) k ≡ Some x → p x ≡ true
+        kept zero here = let same : y ≡ x = cc in ap p (sym same) ∙ e
+        kept (suc k) there = later k there
+
+-- where it keeps nothing none passes
+filter-none : {A : Type 0} (p : A → Bool) (xs : List A) → filter p xs ≡ [] → (i : ℕ) (x : A) → slice_get xs i ≡ Some x → p x ≡ false
+filter-none p [] h i x at = absurd cc
+filter-none p (y ∷ xs) h i x at = go (p y) refl (λ rest k there. filter-none p xs rest k x there)
+  where
+    go : (b : Bool) → p y ≡ b → (filter p xs ≡ [] → (k : ℕ) → slice_get xs k ≡ Some x → p x ≡ false) → p x ≡ false
+    go true e later = absurd (let s : y ∷ filter p xs ≡ [] = sym (ap (λ b. cond b (y ∷ filter p xs) (filter p xs)) e) ∙ h in cc)
+    go false e later = at_place i at
+      where
+        at_place : (k : ℕ) → slice_get (y ∷ xs) k ≡ Some x → p x ≡ false
+        at_place zero here = let same : y ≡ x = cc in ap p (sym same) ∙ e
+        at_place (suc k) there = later (sym (ap (λ b. cond b (y ∷ filter p xs) (filter p xs)) e) ∙ h) k there
+
+-- a thread that was chosen runs, whatever the schedule
+pub chosen-runs : (schedule : ℕ) (bars : List Bar) (last draw t : ℕ) → chosen_thread schedule bars last draw ≡ Some t → runs_at bars t ≡ true
+chosen-runs schedule bars last draw t h = go (schedule == 0) h
+  where
+    go : (b : Bool) → (if b then next_thread bars last else picked (runnable_threads bars) draw) ≡ Some t → runs_at bars t ≡ true
+    go true h = find-passes (runs_at bars) (cyclic (length bars) last) t h
+    go false h = filter-passes (runs_at bars) (range_with_len 1 (length bars)) (draw / 2 ^ 33 % length (runnable_threads bars)) t h
+
+-- where no thread is runnable none runs
+none-runnable : (bars : List Bar) → runnable_threads bars ≡ [] → list_all (λ b. not (is_runnable b)) bars ≡ true
+none-runnable bars h = all-from_each (λ b. not (is_runnable b)) bars (λ i b at. ap not (sym (runs_at-bar bars (suc i) b (omega arith) (place i b at)) ∙ idle i (slice_get_within bars i b at)))
+  where
+    place : (i : ℕ) (b : Bar) → slice_get bars i ≡ Some b → slice_get bars (suc i - 1) ≡ Some b
+    place i b at = let e : i ≡ suc i - 1 = omega arith in ap (slice_get bars) (sym e) ∙ at
+
+    idle : (i : ℕ) → i < length bars → runs_at bars (suc i) ≡ false
+    idle i within =
+        let e : 1 + i ≡ suc i = omega arith in
+        filter-none (runs_at bars) (range_with_len 1 (length bars)) h i (suc i) (slice_get-range 1 (length bars) i within ∙ ap Some e)
+
+-- a number picks one out of some
+pub picked-none : (threads : List ℕ) (draw : ℕ) → picked threads draw ≡ None → threads ≡ []
+picked-none [] draw h = refl
+picked-none (t ∷ threads) draw h =
+    let inside : draw / 2 ^ 33 % length (t ∷ threads) < length (t ∷ threads) = mod-lt (draw / 2 ^ 33) (omega arith) in
+    let found = slice_get-get_or (t ∷ threads) (draw / 2 ^ 33 % length (t ∷ threads)) t inside in
+    absurd (let e : None ≡ Some (get_or (t ∷ threads) (draw / 2 ^ 33 % length (t ∷ threads)) t) = sym h ∙ found in cc)
+
 -- so where the state isn't stuck and a thread hasn't ended, one is chosen
-pub some-chosen : (bars : List Bar) (last : ℕ) → last ≤ length bars → is_over bars ≡ false → is_stuck bars ≡ false → next_thread bars last ≢ None
-some-chosen bars last low going free h =
-    false≢true (sym free ∙ ap (λ b. not b && list_all (λ c. not (is_runnable c)) bars) going ∙ none-runs bars last low h)
+pub some-chosen : (schedule : ℕ) (bars : List Bar) (last draw : ℕ) → last ≤ length bars → is_over bars ≡ false → is_stuck bars ≡ false → chosen_thread schedule bars last draw ≢ None
+some-chosen schedule bars last draw low going free h =
+    false≢true (sym free ∙ ap (λ b. not b && list_all (λ c. not (is_runnable c)) bars) going ∙ go (schedule == 0) h)
+  where
+    go : (b : Bool) → (if b then next_thread bars last else picked (runnable_threads bars) draw) ≡ None → list_all (λ c. not (is_runnable c)) bars ≡ true
+    go true h = none-runs bars last low h
+    go false h = none-runnable bars (picked-none (runnable_threads bars) draw h)
 
 -- the same by the element that indexing reads
 pub runs_at-index : (bars : List Bar) (t : ℕ) (d : Bar) → 1 ≤ t → t ≤ length bars → runs_at bars t ≡ is_runnable (get_or bars (t - 1) d)

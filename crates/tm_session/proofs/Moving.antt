@@ -17,8 +17,9 @@ use Rattle.tm_replay.proofs.Moves.{Does, may-does, asked-well_formed}
 use Rattle.tm_session.specs.declared.moves.Wish.{Wish}
 use Rattle.tm_session.specs.Seats.{GoesOn, AsksCalls}
 use Rattle.tm_session.specs.Scenes.{IsEarly, CanPerform, Performs}
-use Rattle.tm_session.specs.Turns.{next_thread, runs_at, cyclic, KeepsLimit}
-use Rattle.tm_session.proofs.Choosing.{find-passes, runs-known}
+use Rattle.tm_session.specs.Choices.{chosen_thread}
+use Rattle.tm_session.specs.Turns.{KeepsLimit}
+use Rattle.tm_session.proofs.Choosing.{chosen-runs, runs-known}
 use Rattle.tm_session.proofs.Progress.{does-within, does-answered}
 use Rattle.tm_session.proofs.Reading.{found_at}
 use Rattle.tm_session.proofs.Showing.{bar_of-seat}
@@ -55,9 +56,9 @@ module _ (x : ExerciseView) (j : Joint) (formed : IsWellFormed x) (sound : IsSou
     pub within : t < length j.standings
     pub runs : is_runnable (bar_of j t) ≡ true
 
-  pub chosen : (last t : ℕ) → next_thread (bars_of j) last ≡ Some t → IsChosen t
-  chosen last t h =
-      let k = runs-known j t (find-passes (runs_at (bars_of j)) (cyclic (length (bars_of j)) last) t h) in
+  pub chosen : (schedule last draw t : ℕ) → chosen_thread schedule (bars_of j) last draw ≡ Some t → IsChosen t
+  chosen schedule last draw t h =
+      let k = runs-known j t (chosen-runs schedule (bars_of j) last draw t h) in
       record { program = k.0; known = omega (arith, k.1, sound.thread_count); within = k.1; runs = k.2 }
 
   module _ (t : ℕ) (s : Standing) (c : IsChosen t) (seat : slice_get j.standings t ≡ Some s) where

@@ -23,6 +23,7 @@ use Rattle.tm_replay.specs.JointSteps.{JointStep}
 use Rattle.tm_replay.specs.Bars.{bars_of}
 use Rattle.tm_replay.specs.Sound.{IsSoundJoint}
 use Rattle.tm_session.specs.declared.sessions.Session.{Session}
+use Rattle.tm_session.specs.declared.rules.Rules.{Rules}
 use Rattle.tm_session.specs.Pages.{Page, first_page, AddsRow, AreRows, BeginsAloneText}
 use Rattle.tm_session.specs.Running.{turn_of}
 use Rattle.tm_session.specs.Sending.{IsSent}
@@ -73,9 +74,9 @@ IsSent-front true before now old new bytes sent = sent.1
 IsSent-front false before now old new bytes sent = AppendsPrefix-whole old new bytes sent.1
 
 -- a session under way has written a front of the alone run's first rows
-pub begun-text : (x : ExerciseView) (limit : ℕ) (s : Session) (before now : ℕ) (old new : Option (List ℕ)) → IsUnderWay x limit s → HasSent x s before now old new
-    → (bytes : List ℕ) × BeginsAloneText x limit bytes × AppendsPrefix old new bytes
-begun-text x limit s before now old new way h = (
+pub begun-text : (x : ExerciseView) (rules : Rules) (s : Session) (before now : ℕ) (old new : Option (List ℕ)) → IsUnderWay x rules s → HasSent x s before now old new
+    → (bytes : List ℕ) × BeginsAloneText x rules bytes × AppendsPrefix old new bytes
+begun-text x rules s before now old new way h = (
   h.page.rows,
   record { events = s.shown.items; turn = turn_of s.run; run = way.begins; page = h.page; rows = h.rows; text = refl },
   IsSent-front s.failed before now old new h.page.rows h.sent,

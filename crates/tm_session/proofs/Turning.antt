@@ -13,17 +13,19 @@ use Rattle.tm_replay.proofs.Soundness.{IsSoundJoint-step}
 use Rattle.tm_replay.proofs.Falling.{work-step}
 use Rattle.tm_replay.proofs.Counted.{IsCounted-step}
 use Rattle.tm_session.specs.declared.turns.Run.{Run}
+use Rattle.tm_session.specs.declared.rules.Rules.{Rules}
+use Rattle.tm_session.specs.Choices.{draw_after}
 use Rattle.tm_session.specs.Scenes.{joint_of}
 use Rattle.tm_session.specs.Turns.{Turn, first_turn, BeginsAlone, Goes, GoesBy, Moves, due_stops}
 use Rattle.tm_session.specs.Running.{turn_of, MovesOn, AreWaited}
 use Rattle.tm_session.proofs.Stopping.{due-waited, waited-after}
 
 -- a thread that went on, from a run that differs from the old one in its due objects alone
-pub moves : (x : ExerciseView) (limit : ℕ) (p : Turn) (mid new : Run) (e : Entry) → joint_of mid.scene ≡ p.joint → mid.last ≡ p.last → mid.stops.items ≡ [] → MovesOn x limit mid e new → Moves x limit p e (turn_of new)
-moves x limit p mid new e joint last stops m =
-    subst (λ (j : Joint). Moves x limit (record { joint = j; last = p.last; stops = p.stops }) e (turn_of new)) joint
-    (subst (λ (l : ℕ). Moves x limit (record { joint = joint_of mid.scene; last = l; stops = p.stops }) e (turn_of new)) last
-    (record { step = m.step; chosen = m.chosen; limit = m.limit; stops = m.stops ∙ stops; last = m.last }))
+pub moves : (x : ExerciseView) (rules : Rules) (p : Turn) (mid new : Run) (e : Entry) → joint_of mid.scene ≡ p.joint → mid.last ≡ p.last → mid.draw ≡ p.draw → mid.stops.items ≡ [] → MovesOn x rules mid e new → Moves x rules p e (turn_of new)
+moves x rules p mid new e joint last draw stops m =
+    subst (λ (j : Joint). Moves x rules (record { joint = j; last = p.last; draw = p.draw; stops = p.stops }) e (turn_of new)) joint
+    (subst (λ (l : ℕ). Moves x rules (record { joint = joint_of mid.scene; last = l; draw = p.draw; stops = p.stops }) e (turn_of new)) last
+    (record { step = m.step; draw = m.draw ∙ ap (draw_after rules.schedule) draw; chosen = m.chosen; limit = m.limit; stops = m.stops ∙ stops; last = m.last }))
 
 -- what holds of a turn of a run
 pub record IsSoundTurn (x : ExerciseView) (p : Turn) : Type 0 where
@@ -32,10 +34,10 @@ pub record IsSoundTurn (x : ExerciseView) (p : Turn) : Type 0 where
   pub waited : AreWaited p.joint p.stops
 
 -- a turn is a joint step, and leads to a sound turn
-pub turned : (x : ExerciseView) (limit : ℕ) (p q : Turn) (e : Entry) → IsWellFormed x → IsSoundTurn x p → Goes x limit p e q → JointStep x p.joint e q.joint × IsSoundTurn x q
-turned x limit p q e formed sound goes = go (due_stops p) (due-waited p.joint p.stops sound.waited) goes
+pub turned : (x : ExerciseView) (rules : Rules) (p q : Turn) (e : Entry) → IsWellFormed x → IsSoundTurn x p → Goes x rules p e q → JointStep x p.joint e q.joint × IsSoundTurn x q
+turned x rules p q e formed sound goes = go (due_stops p) (due-waited p.joint p.stops sound.waited) goes
   where
-    go : (due : List ℕ) → AreWaited p.joint due → GoesBy x limit p due e q → JointStep x p.joint e q.joint × IsSoundTurn x q
+    go : (due : List ℕ) → AreWaited p.joint due → GoesBy x rules p due e q → JointStep x p.joint e q.joint × IsSoundTurn x q
     go [] waited m = (
       m.step,
       record {
@@ -56,19 +58,19 @@ turned x limit p q e formed sound goes = go (due_stops p) (due-waited p.joint p.
     )
 
 -- a turn keeps places and stamps below the number of events, and lowers the work that is left
-pub turn-counts : (x : ExerciseView) (limit n : ℕ) (p q : Turn) (e : Entry) → IsWellFormed x → IsSoundTurn x p → IsCounted n p.joint → Goes x limit p e q
+pub turn-counts : (x : ExerciseView) (rules : Rules) (n : ℕ) (p q : Turn) (e : Entry) → IsWellFormed x → IsSoundTurn x p → IsCounted n p.joint → Goes x rules p e q
     → IsCounted (n + 1) q.joint × (work q.joint + 1 ≤ work p.joint)
-turn-counts x limit n p q e formed sound counted goes =
-    let step = (turned x limit p q e formed sound goes).0 in
+turn-counts x rules n p q e formed sound counted goes =
+    let step = (turned x rules p q e formed sound goes).0 in
     (IsCounted-step x n p.joint q.joint e counted step, work-step x p.joint q.joint e formed sound.sound step)
 
 -- an alone run's events are a joint run
-turns-legal : (x : ExerciseView) (limit : ℕ) (es : List Entry) (p q : Turn) → IsWellFormed x → IsSoundTurn x p → Leads (Goes x limit) p es q → Leads (JointStep x) p.joint es q.joint
-turns-legal x limit [] p q formed sound run = ap (λ (t : Turn). t.joint) run
-turns-legal x limit (e ∷ es) p q formed sound run =
-    let t = turned x limit p run.0 e formed sound run.1 in
-    (run.0.joint, t.0, turns-legal x limit es run.0 q formed t.1 run.2)
+turns-legal : (x : ExerciseView) (rules : Rules) (es : List Entry) (p q : Turn) → IsWellFormed x → IsSoundTurn x p → Leads (Goes x rules) p es q → Leads (JointStep x) p.joint es q.joint
+turns-legal x rules [] p q formed sound run = ap (λ (t : Turn). t.joint) run
+turns-legal x rules (e ∷ es) p q formed sound run =
+    let t = turned x rules p run.0 e formed sound run.1 in
+    (run.0.joint, t.0, turns-legal x rules es run.0 q formed t.1 run.2)
 
-pub alone-legal : (x : ExerciseView) (limit : ℕ) (es : List Entry) (q : Turn) → IsWellFormed x → BeginsAlone x limit es q → IsJointRun x es q.joint
-alone-legal x limit es q formed run =
-    turns-legal x limit es (first_turn x) q formed (record { sound = IsSoundJoint-start x formed; last = omega arith; waited = tt }) run
+pub alone-legal : (x : ExerciseView) (rules : Rules) (es : List Entry) (q : Turn) → IsWellFormed x → BeginsAlone x rules es q → IsJointRun x es q.joint
+alone-legal x rules es q formed run =
+    turns-legal x rules es (first_turn x rules) q formed (record { sound = IsSoundJoint-start x formed; last = omega arith; waited = tt }) run

@@ -1,4 +1,5 @@
 pub mod Entering
+pub mod Choices
 pub mod Turns
 pub mod Seats
 pub mod Pages

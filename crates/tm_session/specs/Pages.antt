@@ -9,6 +9,7 @@ use Rattle.tm_replay.specs.Joint.{Joint, start}
 use Rattle.tm_replay.specs.JointSteps.{JointStep}
 use Rattle.tm_replay.specs.Bars.{bars_of}
 use Rattle.tm_replay.specs.Ends.{end_of, named_of}
+use Rattle.tm_session.specs.declared.rules.Rules.{Rules}
 use Rattle.tm_session.specs.Turns.{Turn, BeginsAlone, IsAloneRun}
 
 -- A page of rows: the joint state that its events leave, how many there are, and the rows.
@@ -31,9 +32,9 @@ abbrev pub AreRows : ExerciseView → List Entry → Page → Type 0
 AreRows x es p = Leads (AddsRow x) (first_page x) es p
 
 -- The bytes are those of an alone run: the rows of its events and its last line.
-pub record IsAloneText (x : ExerciseView) (limit : ℕ) (es : List Entry) (end : End) (cut : List ℕ) (bytes : List ℕ) : Type 0 where
+pub record IsAloneText (x : ExerciseView) (rules : Rules) (es : List Entry) (end : End) (cut : List ℕ) (bytes : List ℕ) : Type 0 where
   pub turn : Turn
-  pub run : IsAloneRun x limit es turn
+  pub run : IsAloneRun x rules es turn
   pub ended : end ≡ end_of turn.joint
   pub named : cut ≡ named_of turn.joint
   pub page : Page
@@ -42,10 +43,10 @@ pub record IsAloneText (x : ExerciseView) (limit : ℕ) (es : List Entry) (end :
   pub text : bytes ≡ page.rows ++ last_line_of x end (length es) cut
 
 -- The bytes are those of an alone run's first events.
-pub record BeginsAloneText (x : ExerciseView) (limit : ℕ) (bytes : List ℕ) : Type 0 where
+pub record BeginsAloneText (x : ExerciseView) (rules : Rules) (bytes : List ℕ) : Type 0 where
   pub events : List Entry
   pub turn : Turn
-  pub run : BeginsAlone x limit events turn
+  pub run : BeginsAlone x rules events turn
   pub page : Page
   pub rows : AreRows x events page
   pub text : bytes ≡ page.rows

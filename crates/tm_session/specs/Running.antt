@@ -9,10 +9,12 @@ use Rattle.tm_replay.specs.Bars.{bars_of, has_waiter}
 use Rattle.tm_replay.specs.Sound.{IsSoundJoint}
 use Rattle.tm_session.specs.declared.turns.Run.{Run}
 use Rattle.tm_session.specs.Scenes.{joint_of, IsEarly}
-use Rattle.tm_session.specs.Turns.{Turn, next_thread, KeepsLimit}
+use Rattle.tm_session.specs.declared.rules.Rules.{Rules}
+use Rattle.tm_session.specs.Choices.{chosen_thread, draw_after}
+use Rattle.tm_session.specs.Turns.{Turn, KeepsLimit}
 
 abbrev pub turn_of : Run → Turn
-turn_of run = record { joint = joint_of run.scene; last = run.last; stops = run.stops.items }
+turn_of run = record { joint = joint_of run.scene; last = run.last; draw = run.draw; stops = run.stops.items }
 
 -- The objects rise, and each has a waiter.
 abbrev pub AreWaited : Joint → List ℕ → Type 0
@@ -35,10 +37,11 @@ pub record HaltsAt (x : ExerciseView) (run : Run) (object : ℕ) : Type 0 where
   pub early : IsEarly (joint_of run.scene)
   pub waited : has_waiter (slice_get (joint_of run.scene).objects object) ≡ true
 
--- The next runnable thread went on, within its limit.
-pub record MovesOn (x : ExerciseView) (most : ℕ) (old : Run) (e : Entry) (new : Run) : Type 0 where
+-- The thread that the schedule chooses went on, within its limit.
+pub record MovesOn (x : ExerciseView) (rules : Rules) (old : Run) (e : Entry) (new : Run) : Type 0 where
   pub step : JointStep x (joint_of old.scene) e (joint_of new.scene)
-  pub chosen : next_thread (bars_of (joint_of old.scene)) old.last ≡ Some e.thread
-  pub limit : KeepsLimit most step.standing e.op
+  pub draw : new.draw ≡ draw_after rules.schedule old.draw
+  pub chosen : chosen_thread rules.schedule (bars_of (joint_of old.scene)) old.last new.draw ≡ Some e.thread
+  pub limit : KeepsLimit rules.limit step.standing e.op
   pub stops : new.stops.items ≡ old.stops.items
   pub last : new.last ≡ e.thread

@@ -1,25 +1,30 @@
--- The alone run of an exercise: one event a turn, under schedule 0 and a limit of calls per thread.
-use Rattle.std.specs.Prelude.{◌≡◌, ℕ, zero, suc, ◌+◌, ◌-◌, ◌<◌, ◌≤◌, Bool, true, false, if◌then◌else◌, List, [], ◌∷◌, ◌++◌, length, find, slice_get, Option, Some, None, MatchBool}
-use Rattle.std.specs.List.{range_with_len}
+-- The alone run of an exercise: one event a turn, under a schedule and a limit of calls per thread.
+use Rattle.std.specs.Prelude.{◌≡◌, ℕ, ◌<◌, ◌≤◌, true, if◌then◌else◌, List, [], ◌∷◌, Some, MatchBool}
 use Rattle.tm_base.specs.declared.operations.Op.{Op}
 use Rattle.tm_base.specs.declared.operations.Op.TheVariants as op
 use Rattle.tm_base.specs.declared.events.Entry.{Entry}
-use Rattle.tm_base.specs.declared.outcomes.Bar.{Bar}
 use Rattle.tm_base.specs.Runs.{Leads}
 use Rattle.tm_text.specs.Exercises.{ExerciseView}
 use Rattle.tm_replay.specs.Joint.{Joint, Standing, start}
 use Rattle.tm_replay.specs.JointSteps.{JointStep, is_call, is_stopped}
-use Rattle.tm_replay.specs.Bars.{bars_of, is_runnable, is_over, is_stuck, waited_objects}
+use Rattle.tm_replay.specs.Bars.{bars_of, is_over, is_stuck, waited_objects}
+use Rattle.tm_session.specs.declared.rules.Rules.{Rules}
+use Rattle.tm_session.specs.Choices.{chosen_thread, draw_after}
 
--- Where the run stands: the joint state, the thread that moved last (0 where none has), and the objects
--- that `main` still has to stop.
+-- Where the run stands: the joint state, the thread that moved last (0 where none has), the number that was
+-- drawn last (the schedule's own where none was), and the objects that `main` still has to stop.
 pub record Turn : Type 0 where
   pub joint : Joint
   pub last : ℕ
+  pub draw : ℕ
   pub stops : List ℕ
 
-abbrev pub first_turn : ExerciseView → Turn
-first_turn x = record { joint = start x; last = 0; stops = [] }
+abbrev pub first_turn : ExerciseView → Rules → Turn
+first_turn x rules = record { joint = start x; last = 0; draw = rules.schedule; stops = [] }
+
+-- The rules of a schedule and of a limit of calls.
+abbrev pub rules_of : ℕ → ℕ → Rules
+rules_of schedule limit = record { schedule = schedule; limit = limit }
 
 -- What `main` stops next: what it still has to stop, or in a stuck state each object that has a waiter, in
 -- rising number.
@@ -29,23 +34,6 @@ due_by stops j = stops
 
 abbrev pub due_stops : Turn → List ℕ
 due_stops p = due_by p.stops p.joint
-
--- The threads in cyclic order, beginning after `last`.
-abbrev pub cyclic : ℕ → ℕ → List ℕ
-cyclic threads last = range_with_len (last + 1) (threads - last) ++ range_with_len 1 last
-
-abbrev pub is_runnable_bar : Option Bar → Bool
-is_runnable_bar None = false
-is_runnable_bar (Some b) = is_runnable b
-
--- The bar of the thread shows that it is runnable.
-abbrev pub runs_at : List Bar → ℕ → Bool
-runs_at bars zero = false
-runs_at bars (suc t) = is_runnable_bar (slice_get bars t)
-
--- The next runnable thread in cyclic order, by the bars.
-abbrev pub next_thread : List Bar → ℕ → Option ℕ
-next_thread bars last = find (runs_at bars) (cyclic (length bars) last)
 
 -- A thread makes no call beyond its limit, and its end is cut only after the reply `stopped` or at its
 -- limit.
@@ -60,28 +48,30 @@ pub record Halts (x : ExerciseView) (p : Turn) (due : ℕ) (others : List ℕ) (
   pub object : e.object ≡ due
   pub stops : q.stops ≡ others
   pub last : q.last ≡ p.last
+  pub draw : q.draw ≡ p.draw
 
--- The next runnable thread goes on.
-pub record Moves (x : ExerciseView) (most : ℕ) (p : Turn) (e : Entry) (q : Turn) : Type 0 where
+-- The thread that the schedule chooses goes on, within its limit.
+pub record Moves (x : ExerciseView) (rules : Rules) (p : Turn) (e : Entry) (q : Turn) : Type 0 where
   pub step : JointStep x p.joint e q.joint
-  pub chosen : next_thread (bars_of p.joint) p.last ≡ Some e.thread
-  pub limit : KeepsLimit most step.standing e.op
+  pub draw : q.draw ≡ draw_after rules.schedule p.draw
+  pub chosen : chosen_thread rules.schedule (bars_of p.joint) p.last q.draw ≡ Some e.thread
+  pub limit : KeepsLimit rules.limit step.standing e.op
   pub stops : q.stops ≡ []
   pub last : q.last ≡ e.thread
 
 -- The event is the run's next.
-abbrev pub GoesBy : ExerciseView → ℕ → Turn → List ℕ → Entry → Turn → Type 0
-GoesBy x limit p [] e q = Moves x limit p e q
-GoesBy x limit p (object ∷ stops) e q = Halts x p object stops e q
+abbrev pub GoesBy : ExerciseView → Rules → Turn → List ℕ → Entry → Turn → Type 0
+GoesBy x rules p [] e q = Moves x rules p e q
+GoesBy x rules p (object ∷ stops) e q = Halts x p object stops e q
 
-abbrev pub Goes : ExerciseView → ℕ → Turn → Entry → Turn → Type 0
-Goes x limit p e q = GoesBy x limit p (due_stops p) e q
+abbrev pub Goes : ExerciseView → Rules → Turn → Entry → Turn → Type 0
+Goes x rules p e q = GoesBy x rules p (due_stops p) e q
 
 -- The events are the alone run's first ones, and lead to this turn.
-abbrev pub BeginsAlone : ExerciseView → ℕ → List Entry → Turn → Type 0
-BeginsAlone x limit es p = Leads (Goes x limit) (first_turn x) es p
+abbrev pub BeginsAlone : ExerciseView → Rules → List Entry → Turn → Type 0
+BeginsAlone x rules es p = Leads (Goes x rules) (first_turn x rules) es p
 
 -- They are the whole alone run: every thread has ended.
-pub record IsAloneRun (x : ExerciseView) (limit : ℕ) (es : List Entry) (p : Turn) : Type 0 where
-  pub run : BeginsAlone x limit es p
+pub record IsAloneRun (x : ExerciseView) (rules : Rules) (es : List Entry) (p : Turn) : Type 0 where
+  pub run : BeginsAlone x rules es p
   pub over : is_over (bars_of p.joint) ≡ true

@@ -4,16 +4,15 @@ ghost use Rattle.tm_replay.specs.Joint.{Joint};
 ghost use Rattle.tm_replay.specs.JointSteps.{IsJointRun};
 ghost use Rattle.tm_session.specs.Pages.{IsAloneText, BeginsAloneText};
 ghost use Rattle.tm_session.specs.Sending.{IsSent};
+ghost use Rattle.tm_session.specs.Turns.{rules_of};
 
+use crate::rules::Rules;
 use crate::sessions::Session;
 use crate::turns::is_over;
 use std::alloc::Global;
 use tm_base::{End, Entries, NoMemory, Sequence};
 use tm_outside::Sink;
 use tm_text::Exercise;
-
-/// How many calls a thread may make.
-pub const CALLS: u32 = 1000;
 
 /// A run that ended.
 #[derive(Debug, Drop)]
@@ -28,26 +27,30 @@ pub struct Finished {
     pub write_fault: bool,
 }
 
-/// Runs the exercise alone: one event a turn, by the threads in cyclic order, with at most 1,000 calls
-/// a thread. Writes a row for each event, and the last line. Only want of memory refuses it, and then
-/// a front of the rows was written.
+/// Runs the exercise alone: one event a turn, by the threads in cyclic order under schedule 0, and by a
+/// thread that is drawn under each other one. A thread makes at most `limit` calls, its `begin` and
+/// `end` not counted. Writes a row for each event, and the last line. Only want of memory refuses it,
+/// and then a front of the rows was written.
 pub fn alone<K: Sink>(
     alloc: Global,
     exercise: &Exercise,
+    schedule: u64,
+    limit: u32,
     sink: &mut K,
 ) -> Result<Finished, NoMemory>
     // The events, the end and the named threads are those of the alone run, and its text was written.
-    ensures run { IfOk result (λ f. (bytes : List ℕ) × IsAloneText exercise.now 1000 f.shown f.end f.cut bytes
+    ensures run { IfOk result (λ f. (bytes : List ℕ) × IsAloneText exercise.now (rules_of schedule limit) f.shown f.end f.cut bytes
         × IsSent f.write_fault (K.fault_count sink.old) (K.fault_count sink.new) (K.written sink.old) (K.written sink.new) bytes) }
     // They are a legal run of all objects together.
     ensures legal { IfOk result (λ f. (j : Joint) × IsJointRun exercise.now f.shown j) }
-    ensures refused { OnErr result ((bytes : List ℕ) × BeginsAloneText exercise.now 1000 bytes
+    ensures refused { OnErr result ((bytes : List ℕ) × BeginsAloneText exercise.now (rules_of schedule limit) bytes
         × AppendsPrefix (K.written sink.old) (K.written sink.new) bytes) }
     ensures never_falls { K.fault_count sink.old ≤ K.fault_count sink.new }
 {
-    let mut session = Session::make(alloc, exercise)?;
+    let rules = Rules { schedule, limit };
+    let mut session = Session::make(alloc, exercise, rules)?;
     while !is_over(session.bars.as_slice()) {
-        session.turn(alloc, exercise, sink, CALLS)?;
+        session.turn(alloc, exercise, sink, rules)?;
     }
     session.finish(alloc, exercise, sink)
 }

@@ -10,6 +10,7 @@ ghost use Rattle.tm_session.specs.Sessions.{IsUnderWay, HasSent};
 ghost use Rattle.tm_session.specs.Sending.{IsSent};
 
 use crate::endings::Ending;
+use crate::rules::Rules;
 use crate::runs::Finished;
 use crate::turns::Run;
 use std::alloc::Global;
@@ -29,12 +30,12 @@ pub struct Session {
 
 impl Session {
     /// Nothing has happened yet, and nothing was written.
-    pub fn make(alloc: Global, exercise: &Exercise) -> Result<Session, NoMemory>
-        ensures under_way { (most : ℕ) → IfOk result (λ session. IsUnderWay exercise.now most session) }
+    pub fn make(alloc: Global, exercise: &Exercise, rules: Rules) -> Result<Session, NoMemory>
+        ensures under_way { IfOk result (IsUnderWay exercise.now rules) }
         ensures sent { IfOk result (λ session. (count : ℕ) (bytes : Option (List ℕ)) → HasSent exercise.now session count count bytes bytes) }
     {
         let _threads = exercise.threads();
-        let run = Run::make(alloc, exercise)?;
+        let run = Run::make(alloc, exercise, rules)?;
         let bars = run.scene.bars(alloc, exercise)?;
         Ok(Session {
             run,
@@ -50,11 +51,11 @@ impl Session {
         alloc: Global,
         exercise: &Exercise,
         sink: &mut K,
-        limit: u32,
+        rules: Rules,
     ) -> Result<(), NoMemory>
-        requires under_way { IsUnderWay exercise.now limit self.old }
+        requires under_way { IsUnderWay exercise.now rules self.old }
         requires going { is_over self.old.bars.items ≡ false }
-        ensures under_way { OnOk result (IsUnderWay exercise.now limit self.new) }
+        ensures under_way { OnOk result (IsUnderWay exercise.now rules self.new) }
         ensures falls { OnOk result (work (joint_of self.new.run.scene) < work (joint_of self.old.run.scene)) }
         ensures sent { OnOk result ((before : ℕ) (old : Option (List ℕ))
             → HasSent exercise.now self.old before (K.fault_count sink.old) old (K.written sink.old)
@@ -62,7 +63,7 @@ impl Session {
         ensures kept { OnErr result (K.written sink.new ≡ K.written sink.old) }
         ensures never_falls { K.fault_count sink.old ≤ K.fault_count sink.new }
     {
-        let entry = self.run.go(alloc, exercise, self.bars.as_slice(), limit)?;
+        let entry = self.run.go(alloc, exercise, self.bars.as_slice(), rules)?;
         self.shown.push(entry)?;
         self.bars = self.run.scene.bars(alloc, exercise)?;
         let count = self.shown.len() as u64;

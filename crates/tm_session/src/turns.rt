@@ -1,14 +1,16 @@
-ghost use Rattle.std.specs.Prelude.{◌≡◌, ◌≢◌, ◌≤◌, ◌<◌, ◌+◌, ◌-◌, ◌^◌, ℕ, IfOk, OnOk, MatchOption, not, [], ◌∷◌, length, find, true, false};
-ghost use Rattle.std.specs.List.{list_all, range_with_len};
+ghost use Rattle.std.specs.Prelude.{◌≡◌, IfOk, OnOk, MatchOption, not, [], ◌∷◌, false};
+ghost use Rattle.std.specs.List.{list_all};
 ghost use Rattle.tm_base.specs.declared.operations.Op.TheVariants as op;
 ghost use Rattle.tm_text.specs.Exercises.{IsWellFormed};
 ghost use Rattle.tm_replay.specs.Bars.{bars_of, is_over, is_runnable, is_stuck};
 ghost use Rattle.tm_replay.specs.JointSteps.{JointStep};
 ghost use Rattle.tm_session.specs.Scenes.{joint_of};
 ghost use Rattle.tm_session.specs.Running.{turn_of, IsRunning, HaltsAt, MovesOn};
-ghost use Rattle.tm_session.specs.Turns.{Goes, due_stops, first_turn, next_thread, runs_at, cyclic};
+ghost use Rattle.tm_session.specs.Turns.{Goes, due_stops, first_turn};
 
+use crate::choices::{choose, draw_after, is_runnable};
 use crate::moves::Wish;
+use crate::rules::Rules;
 use crate::scenes::Scene;
 use std::alloc::Global;
 use std::collections::VecDeque;
@@ -16,22 +18,25 @@ use tm_base::{Bar, Entry, NoMemory, Op};
 use tm_text::Exercise;
 
 /// A run as far as it has come: all objects and threads, the thread that moved last (0 where none
-/// has), and the objects that `main` still has to stop.
+/// has), the number that was drawn last (the schedule's own where none was), and the objects that
+/// `main` still has to stop.
 #[derive(Drop)]
 pub struct Run {
     pub scene: Scene,
     pub last: u32,
+    pub draw: u64,
     pub stops: VecDeque<u32>,
 }
 
 impl Run {
     /// Nothing has happened yet.
-    pub fn make(alloc: Global, exercise: &Exercise) -> Result<Run, NoMemory>
-        ensures { IfOk result (λ run. turn_of run ≡ first_turn exercise.now) }
+    pub fn make(alloc: Global, exercise: &Exercise, rules: Rules) -> Result<Run, NoMemory>
+        ensures { IfOk result (λ run. turn_of run ≡ first_turn exercise.now rules) }
     {
         Ok(Run {
             scene: Scene::make(alloc, exercise)?,
             last: 0,
+            draw: rules.schedule,
             stops: VecDeque::new(alloc),
         })
     }
@@ -42,16 +47,16 @@ impl Run {
         alloc: Global,
         exercise: &Exercise,
         bars: &[Bar],
-        limit: u32,
+        rules: Rules,
     ) -> Result<Entry, NoMemory>
         requires running { IsRunning exercise.now self.old }
         requires bars { bars.now ≡ bars_of (joint_of self.old.scene) }
         requires going { is_over bars.now ≡ false }
-        ensures { IfOk result (λ e. Goes exercise.now limit (turn_of self.old) e (turn_of self.new)) }
+        ensures { IfOk result (λ e. Goes exercise.now rules (turn_of self.old) e (turn_of self.new)) }
     {
         match self.due(alloc, exercise, bars)? {
             Some(object) => Ok(self.halt(exercise, object)),
-            None => Ok(self.move_on(exercise, bars, limit)),
+            None => self.move_on(alloc, exercise, bars, rules),
         }
     }
 
@@ -69,6 +74,7 @@ impl Run {
             (λ object. due_stops (turn_of self.old) ≡ object ∷ self.new.stops.items)) }
         ensures scene { self.new.scene ≡ self.old.scene }
         ensures last { self.new.last ≡ self.old.last }
+        ensures draw { self.new.draw ≡ self.old.draw }
     {
         self.refill(alloc, exercise, bars)?;
         Ok(self.stops.pop_front())
@@ -81,6 +87,7 @@ impl Run {
         ensures due { OnOk result (self.new.stops.items ≡ due_stops (turn_of self.old)) }
         ensures scene { self.new.scene ≡ self.old.scene }
         ensures last { self.new.last ≡ self.old.last }
+        ensures draw { self.new.draw ≡ self.old.draw }
     {
         if !self.stops.is_empty() {
             return Ok(());
@@ -100,6 +107,7 @@ impl Run {
         ensures object { result.object ≡ object }
         ensures stops { self.new.stops.items ≡ self.old.stops.items }
         ensures last { self.new.last ≡ self.old.last }
+        ensures draw { self.new.draw ≡ self.old.draw }
     {
         let _exercise = exercise;
         self.scene.perform(
@@ -111,66 +119,30 @@ impl Run {
         )
     }
 
-    /// The next runnable thread goes on.
-    fn move_on(&mut self, exercise: &Exercise, bars: &[Bar], limit: u32) -> Entry
+    /// The thread that the schedule chooses goes on.
+    fn move_on(
+        &mut self,
+        alloc: Global,
+        exercise: &Exercise,
+        bars: &[Bar],
+        rules: Rules,
+    ) -> Result<Entry, NoMemory>
         requires running { IsRunning exercise.now self.old }
         requires bars { bars.now ≡ bars_of (joint_of self.old.scene) }
         requires going { is_over bars.now ≡ false }
         requires free { is_stuck bars.now ≡ false }
-        ensures { MovesOn exercise.now limit self.old result self.new }
+        ensures { IfOk result (λ e. MovesOn exercise.now rules self.old e self.new) }
     {
-        let Some(thread) = next_runnable(bars, self.last) else {
+        let draw = draw_after(rules.schedule, self.draw);
+        let Some(thread) = choose(alloc, bars, rules.schedule, self.last, draw)? else {
             unreachable!()
         };
         let own = exercise.own(thread);
-        let wish = self.scene.seats[thread as usize].wish(own, limit);
+        let wish = self.scene.seats[thread as usize].wish(own, rules.limit);
         self.last = thread;
-        self.scene.perform(thread, wish)
+        self.draw = draw;
+        Ok(self.scene.perform(thread, wish))
     }
-}
-
-/// The next runnable thread in cyclic order after `last`, by the bars.
-fn next_runnable(bars: &[Bar], last: u32) -> Option<u32>
-    requires few { length bars.now < 2 ^ 31 }
-    requires known { last ≤ length bars.now }
-    ensures { result ≡ next_thread bars.now last }
-{
-    let end = bars.len() as u32 + 1;
-    match first_runnable(bars, last + 1, end) {
-        Some(thread) => Some(thread),
-        None => first_runnable(bars, 1, last + 1),
-    }
-}
-
-/// The first runnable thread from one number up to another, which isn't taken.
-fn first_runnable(bars: &[Bar], from: u32, to: u32) -> Option<u32>
-    requires program { 1 ≤ from }
-    requires ordered { from ≤ to }
-    requires within { to ≤ length bars.now + 1 }
-    ensures { result ≡ find (runs_at bars.now) (range_with_len from (to - from)) }
-{
-    for thread in from..to {
-        if runs(bars, thread) {
-            return Some(thread);
-        }
-    }
-    None
-}
-
-/// Whether the bars show the thread as runnable.
-fn runs(bars: &[Bar], thread: u32) -> bool
-    requires program { 1 ≤ thread }
-    requires known { thread ≤ length bars.now }
-    ensures { result ≡ runs_at bars.now thread }
-{
-    is_runnable(bars[thread as usize - 1])
-}
-
-/// Whether the thread with this bar hasn't ended, and no call of it waits ungranted.
-fn is_runnable(bar: Bar) -> bool
-    ensures { result ≡ is_runnable bar }
-{
-    !matches!(bar, Bar::Ended | Bar::Blocked)
 }
 
 /// Whether a thread hasn't ended, and none is runnable.

@@ -206,9 +206,9 @@ are_fit-true (d ∷ ds) main once =
     ap (λ b. not (b || list_any (λ e. bytes_eq e.name d.name) ds) && are_fit ds) not_main ∙ ap (λ b. not b && are_fit ds) new ∙ rest
 
 -- each program is short
-all_short : (ps : List (List Statement)) → ((t : ℕ) → length (slice_index_or ps t []) ≤ 1000) → list_all is_short ps ≡ true
+all_short : (ps : List (List Statement)) → ((t : ℕ) → length (slice_index_or ps t []) ≤ 4096) → list_all is_short ps ≡ true
 all_short [] h = refl
-all_short (p ∷ ps) h = ap (λ b. b && list_all is_short ps) (le-leb (length p) 1000 (h 0)) ∙ all_short ps (λ t. h (suc t))
+all_short (p ∷ ps) h = ap (λ b. b && list_all is_short ps) (le-leb (length p) 4096 (h 0)) ∙ all_short ps (λ t. h (suc t))
 
 -- the exercise's mutexes and calls
 known_in : (x : ExerciseView) → IsWellFormed x → IsKnown x.objects

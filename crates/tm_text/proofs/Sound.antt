@@ -305,9 +305,9 @@ statement_is ds [] t k s h e = (cc)
 statement_is ds (p ∷ ps) zero k s h e = at_place (IsStatement ds) p k s h.0 e
 statement_is ds (p ∷ ps) (suc t) k s h e = statement_is ds ps t k s h.1 e
 
-short_is : (ps : List (List Statement)) (t : ℕ) → list_all is_short ps ≡ true → length (slice_index_or ps t []) ≤ 1000
+short_is : (ps : List (List Statement)) (t : ℕ) → list_all is_short ps ≡ true → length (slice_index_or ps t []) ≤ 4096
 short_is [] t h = omega arith
-short_is (p ∷ ps) zero h = leb-true (length p) 1000 (both_true (is_short p) (list_all is_short ps) h).0
+short_is (p ∷ ps) zero h = leb-true (length p) 4096 (both_true (is_short p) (list_all is_short ps) h).0
 short_is (p ∷ ps) (suc t) h = short_is ps t (both_true (is_short p) (list_all is_short ps) h).1
 
 -- names that pass the test
@@ -347,7 +347,7 @@ once (b ∷ ds) (suc o) zero c d h e f same =
     absurd (false≢true (sym none ∙ (bytes_eq-Decides c.name b.name).1 (same ∙ sym (ap (λ a. a.name) is))))
 once (b ∷ ds) (suc o) (suc p) c d h e f same = ap suc (once ds o p c d (main_not b ds h).2 e f same)
 
-short_programs : (x : ExerciseView) → list_all is_short x.programs ≡ true → (t : ℕ) → length (program_of x t) ≤ 1000
+short_programs : (x : ExerciseView) → list_all is_short x.programs ≡ true → (t : ℕ) → length (program_of x t) ≤ 4096
 short_programs x h zero = omega arith
 short_programs x h (suc t) = short_is x.programs t h
 

@@ -56,10 +56,10 @@ IsKindRead k = ⊥
 
 -- What holds of every exercise that was read.
 pub record IsWellFormed (x : ExerciseView) : Type 0 where
-  -- there are at most 256 objects and 64 threads, and a program has at most 1,000 statements
+  -- there are at most 256 objects and 64 threads, and a program has at most 4,096 statements
   pub few_objects : length x.objects ≤ 256
   pub few_threads : length x.programs ≤ 64
-  pub short : (t : ℕ) → length (program_of x t) ≤ 1000
+  pub short : (t : ℕ) → length (program_of x t) ≤ 4096
   -- every name is one, is not `main`, and was declared once
   pub names : (o : ℕ) (d : Declared) → slice_get x.objects o ≡ Some d → IsName d.name × (d.name ≢ codes "main")
   pub once : (o p : ℕ) (c d : Declared) → slice_get x.objects o ≡ Some c → slice_get x.objects p ≡ Some d → c.name ≡ d.name → o ≡ p

@@ -155,9 +155,9 @@ abbrev pub spelled_after : List Declared → List (List Statement) → Option (L
 spelled_after ds closed None ss = option_map (λ ps. closed ++ ps) (programs_of ds false ss)
 spelled_after ds closed (Some p) ss = option_map (λ ps. closed ++ put_open p ps) (programs_of ds true ss)
 
--- There are at most 64 programs, and each has at most 1,000 statements.
+-- There are at most 64 programs, and each has at most 4,096 statements.
 abbrev pub is_short : List Statement → Bool
-is_short p = nat_le (length p) 1000
+is_short p = nat_le (length p) 4096
 
 abbrev pub are_short : List (List Statement) → Bool
 are_short ps = nat_le (length ps) 64 && list_all is_short ps

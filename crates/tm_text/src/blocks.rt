@@ -12,7 +12,7 @@ use tm_base::{Kind, Name, Op};
 const MOST_THREADS: usize = 64;
 
 /// How many statements a program may have.
-const MOST_STATEMENTS: usize = 1000;
+const MOST_STATEMENTS: usize = 4096;
 
 /// The programs of the threads that were closed, and that of the thread that is open, if one is.
 #[derive(Drop)]

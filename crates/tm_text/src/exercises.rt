@@ -1,6 +1,5 @@
-ghost use Rattle.std.specs.Prelude.{◌≡◌, ◌≤◌, ◌<◌, IfSome, length, slice_get, Some};
+ghost use Rattle.std.specs.Prelude.{◌≡◌, ◌≤◌, ◌<◌, ℕ, suc, IfSome, length, map, slice_get, Some};
 ghost use Rattle.tm_text.specs.Exercises.{ExerciseView, IsWellFormed, own_of, program_of};
-ghost use Rattle.std.specs.Prelude.{ℕ, suc, map};
 
 use std::marker::Model;
 use tm_base::{Kind, Name, Op};

@@ -1,7 +1,6 @@
-ghost use Rattle.std.specs.Prelude.{◌≡◌, ◌≤◌, length, IfOk};
+ghost use Rattle.std.specs.Prelude.{◌≡◌, ◌≤◌, [], drop, length, IfOk};
 ghost use Rattle.tm_text.specs.Exercises.{program_of};
 ghost use Rattle.tm_text.specs.Programs.{whole, answered, asked_of, left_after};
-ghost use Rattle.std.specs.Prelude.{[], drop};
 
 use crate::exercises::{Exercise, Statement};
 use std::alloc::Global;

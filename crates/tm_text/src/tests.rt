@@ -97,9 +97,9 @@ fn long(alloc: Global, statements: usize) -> Result<String, Fail> {
 
 #[test]
 fn counts_statements(rt: HostRuntime) -> Result<(), Fail> {
-    let text = long(rt.alloc(), 1000)?;
+    let text = long(rt.alloc(), 4096)?;
     assert!(rt; takes(rt.alloc(), text.as_bytes())?);
-    let text = long(rt.alloc(), 1001)?;
+    let text = long(rt.alloc(), 4097)?;
     assert!(rt; !takes(rt.alloc(), text.as_bytes())?);
     Ok(())
 }

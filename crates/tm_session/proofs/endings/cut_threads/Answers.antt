@@ -5,7 +5,7 @@ use Rattle.tm_timeline.specs.Rows.{IsProgramThread}
 use Rattle.tm_replay.specs.Ends.{threads_where}
 use Rattle.tm_session.specs.Scenes.{joint_of}
 use Rattle.tm_session.specs.Cuts.{test_of}
-use Rattle.tm_session.proofs.Growing.{filter-range_next}
+use Rattle.tm_session.proofs.Growing.{filter-range_more}
 use Rattle.tm_session.proofs.Ending.{programs}
 use Rattle.tm_session.proofs.endings.cut_threads.Goals as goal
 use Rattle.tm_session.proofs.endings.cut_threads.Goals.{After-loop-thread, then-was_cut+in_ok-push, else-was_cut}
@@ -20,8 +20,7 @@ loop-thread-preserved c =
     let found = slice_get_read items (length items) t c.index.result.now refl
     (omega (arith, c.loop-thread-test.true, c.threads-thread-end.ensures.value, c.requires.thread_count)) c.index.ensures in
     let test : p t ≡ c.was_cut.result = ap (test_of c.args.cut) found ∙ sym c.was_cut.ensures in
-    let more = sym (ap (λ (n : ℕ). filter p (range_with_len 1 n)) next) ∙ filter-range_next p 1 (t - 1)
-    ∙ ap (λ (n : ℕ). filter p (range_with_len 1 (t - 1)) ++ (if p n then n ∷ [] else [])) last in
+    let more = sym (ap (λ (n : ℕ). filter p (range_with_len 1 n)) next) ∙ filter-range_more p 1 (t - 1) t last in
     elim c.if-was_cut.branch [
       | then-was_cut+in_ok-push w ↦
           ap (λ q. q.items) w.threads-is ∙ w.in_ok-push.ensures.items ∙ ap (λ l. l ++ t ∷ []) c.loop-thread.invariant

@@ -14,7 +14,7 @@ loop-object-preserved c =
     let found = slice_get_read items (length items) o c.index.result.now refl
     (omega (arith, c.loop-object-test.true, c.objects-object-end.ensures.value, c.requires.object_count)) c.index.ensures in
     let test : p o ≡ c.has_waiter.result = ap has_waiter found ∙ sym c.has_waiter.ensures in
-    let more = filter-range_more p o in
+    let more = filter-range_more p 0 o o (omega arith) in
     elim c.if-has_waiter.branch [
       | then-has_waiter+in_ok-push_back w ↦
           ap (λ q. q.items) w.waited-is ∙ w.in_ok-push_back.ensures.items ∙ ap (λ l. l ++ o ∷ []) c.loop-object.invariant

@@ -17,11 +17,11 @@ bars-requires c =
     subst (λ (p : Turn). IsSoundJoint c.args.exercise.now p.joint) (sym c.in_ok-run.ensures) (IsSoundJoint-start c.args.exercise.now c.threads-threads.ensures.well_formed)
 
 pub returns-clause-under_way : goal.returns-clause-under_way
-returns-clause-under_way c most =
+returns-clause-under_way c =
     let x = c.args.exercise.now in
     let formed : IsWellFormed x = c.threads-threads.ensures.well_formed in
     let run = c.in_ok-run.run' in
-    let begun : turn_of run ≡ first_turn x = c.in_ok-run.ensures in
+    let begun : turn_of run ≡ first_turn x c.args.rules = c.in_ok-run.ensures in
     let j = joint_of run.scene in
     let joint : j ≡ start x = ap (λ (p : Turn). p.joint) begun in
     let none : c.new.result.items ≡ [] = c.new.ensures.items in
@@ -36,13 +36,13 @@ returns-clause-under_way c most =
       counted = subst (λ (n : ℕ). IsCounted n j) (sym len) (subst (IsCounted 0) (sym joint) (IsCounted-start x));
       bounded = omega (arith, len, little);
       bars = c.in_ok-bars.ensures;
-      begins = subst (λ (es : List Entry). BeginsAlone x most es (turn_of run)) (sym none) begun;
+      begins = subst (λ (es : List Entry). BeginsAlone x c.args.rules es (turn_of run)) (sym none) begun;
     }
 
 pub returns-clause-sent : goal.returns-clause-sent
 returns-clause-sent c count bytes =
     let x = c.args.exercise.now in
-    let begun : turn_of c.in_ok-run.run' ≡ first_turn x = c.in_ok-run.ensures in
+    let begun : turn_of c.in_ok-run.run' ≡ first_turn x c.args.rules = c.in_ok-run.ensures in
     let none : c.new.result.items ≡ [] = c.new.ensures.items in
     record {
       page = first_page x;

@@ -10,6 +10,7 @@ use Rattle.tm_replay.specs.Bars.{bars_of}
 use Rattle.tm_replay.specs.Work.{IsCounted}
 use Rattle.tm_timeline.specs.Rows.{row_of}
 use Rattle.tm_session.specs.declared.sessions.Session.{Session}
+use Rattle.tm_session.specs.declared.rules.Rules.{Rules}
 use Rattle.tm_session.specs.Scenes.{joint_of}
 use Rattle.tm_session.specs.Sessions.{IsUnderWay}
 use Rattle.tm_session.specs.Turns.{Turn, Goes, BeginsAlone, first_turn}
@@ -20,11 +21,11 @@ use Rattle.tm_session.proofs.Rowing.{bars-programs, step-object, step-thread, st
 use Rattle.tm_session.proofs.sessions.Session.turn.Goals as goal
 
 -- a session under way stands at a sound turn
-sound_turn : (x : ExerciseView) (limit : ℕ) (s : Session) → IsUnderWay x limit s → IsSoundTurn x (turn_of s.run)
-sound_turn x limit s way = record { sound = way.sound; last = way.last; waited = way.waited }
+sound_turn : (x : ExerciseView) (rules : Rules) (s : Session) → IsUnderWay x rules s → IsSoundTurn x (turn_of s.run)
+sound_turn x rules s way = record { sound = way.sound; last = way.last; waited = way.waited }
 
-went : (x : ExerciseView) (limit : ℕ) (s : Session) (q : Turn) (e : Entry) → IsUnderWay x limit s → Goes x limit (turn_of s.run) e q → JointStep x (joint_of s.run.scene) e q.joint × IsSoundTurn x q
-went x limit s q e way goes = turned x limit (turn_of s.run) q e way.formed (sound_turn x limit s way) goes
+went : (x : ExerciseView) (rules : Rules) (s : Session) (q : Turn) (e : Entry) → IsUnderWay x rules s → Goes x rules (turn_of s.run) e q → JointStep x (joint_of s.run.scene) e q.joint × IsSoundTurn x q
+went x rules s q e way goes = turned x rules (turn_of s.run) q e way.formed (sound_turn x rules s way) goes
 
 pub go-requires-clause-running : goal.go-requires-clause-running
 go-requires-clause-running g c =
@@ -38,27 +39,27 @@ go-requires-clause-running g c =
     }
 
 pub bars-requires : goal.bars-requires
-bars-requires g c = (went c.args.exercise.now c.args.limit c.args.self.now (turn_of c.go.new.self) c.in_ok-entry.entry c.requires.under_way c.in_ok-entry.ensures).1.sound
+bars-requires g c = (went c.args.exercise.now c.args.rules c.args.self.now (turn_of c.go.new.self) c.in_ok-entry.entry c.requires.under_way c.in_ok-entry.ensures).1.sound
 
 pub row-requires-clause-object : goal.row-requires-clause-object
 row-requires-clause-object g c =
     step-object c.args.exercise.now (joint_of c.args.self.now.run.scene) (joint_of c.go.new.self.scene) c.in_ok-entry.entry c.requires.under_way.formed c.requires.under_way.sound
-    (went c.args.exercise.now c.args.limit c.args.self.now (turn_of c.go.new.self) c.in_ok-entry.entry c.requires.under_way c.in_ok-entry.ensures).0
+    (went c.args.exercise.now c.args.rules c.args.self.now (turn_of c.go.new.self) c.in_ok-entry.entry c.requires.under_way c.in_ok-entry.ensures).0
 
 pub row-requires-clause-thread : goal.row-requires-clause-thread
 row-requires-clause-thread g c =
     step-thread c.args.exercise.now (joint_of c.args.self.now.run.scene) (joint_of c.go.new.self.scene) c.in_ok-entry.entry c.requires.under_way.formed c.requires.under_way.sound
-    (went c.args.exercise.now c.args.limit c.args.self.now (turn_of c.go.new.self) c.in_ok-entry.entry c.requires.under_way c.in_ok-entry.ensures).0
+    (went c.args.exercise.now c.args.rules c.args.self.now (turn_of c.go.new.self) c.in_ok-entry.entry c.requires.under_way c.in_ok-entry.ensures).0
 
 pub row-requires-clause-granted : goal.row-requires-clause-granted
 row-requires-clause-granted g c =
     step-names c.args.exercise.now (joint_of c.args.self.now.run.scene) (joint_of c.go.new.self.scene) c.in_ok-entry.entry c.requires.under_way.formed c.requires.under_way.sound
-    (went c.args.exercise.now c.args.limit c.args.self.now (turn_of c.go.new.self) c.in_ok-entry.entry c.requires.under_way c.in_ok-entry.ensures).0
+    (went c.args.exercise.now c.args.rules c.args.self.now (turn_of c.go.new.self) c.in_ok-entry.entry c.requires.under_way c.in_ok-entry.ensures).0
 
 pub row-requires-clause-bars : goal.row-requires-clause-bars
 row-requires-clause-bars g c =
     bars-programs c.args.exercise.now (joint_of c.go.new.self.scene) c.as_slice-2.result.now
-    (went c.args.exercise.now c.args.limit c.args.self.now (turn_of c.go.new.self) c.in_ok-entry.entry c.requires.under_way c.in_ok-entry.ensures).1.sound
+    (went c.args.exercise.now c.args.rules c.args.self.now (turn_of c.go.new.self) c.in_ok-entry.entry c.requires.under_way c.in_ok-entry.ensures).1.sound
     (c.as_slice-2.ensures.value ∙ c.in_ok-self.ensures)
 
 pub returns-clause-under_way : goal.returns-clause-under_way
@@ -68,8 +69,8 @@ returns-clause-under_way g c =
     let old = c.args.self.now in
     let next = turn_of c.go.new.self in
     let e = c.in_ok-entry.entry in
-    let now = (went x c.args.limit old next e way c.in_ok-entry.ensures).1 in
-    let counts = turn-counts x c.args.limit (length old.shown.items) (turn_of old.run) next e way.formed (sound_turn x c.args.limit old way) way.counted c.in_ok-entry.ensures in
+    let now = (went x c.args.rules old next e way c.in_ok-entry.ensures).1 in
+    let counts = turn-counts x c.args.rules (length old.shown.items) (turn_of old.run) next e way.formed (sound_turn x c.args.rules old way) way.counted c.in_ok-entry.ensures in
     let len : length c.push.new.self.items ≡ length old.shown.items + 1 = ap length c.in_ok-push.ensures.items ∙ length-append old.shown.items (e ∷ []) in
     record {
       formed = way.formed;
@@ -79,16 +80,16 @@ returns-clause-under_way g c =
       counted = subst (λ (n : ℕ). IsCounted n next.joint) (sym len) counts.0;
       bounded = omega (arith, len, counts.1, way.bounded);
       bars = c.in_ok-self.ensures;
-      begins = subst (λ (es : List Entry). BeginsAlone x c.args.limit es next) (sym c.in_ok-push.ensures.items)
-          (Leads-snoc (Goes x c.args.limit) old.shown.items e (first_turn x) (turn_of old.run) next way.begins c.in_ok-entry.ensures);
+      begins = subst (λ (es : List Entry). BeginsAlone x c.args.rules es next) (sym c.in_ok-push.ensures.items)
+          (Leads-snoc (Goes x c.args.rules) old.shown.items e (first_turn x c.args.rules) (turn_of old.run) next way.begins c.in_ok-entry.ensures);
     }
 
 pub returns-clause-falls : goal.returns-clause-falls
 returns-clause-falls g c =
     let way = c.requires.under_way in
     let old = c.args.self.now in
-    let counts = turn-counts c.args.exercise.now c.args.limit (length old.shown.items) (turn_of old.run) (turn_of c.go.new.self) c.in_ok-entry.entry way.formed
-    (sound_turn c.args.exercise.now c.args.limit old way) way.counted c.in_ok-entry.ensures in
+    let counts = turn-counts c.args.exercise.now c.args.rules (length old.shown.items) (turn_of old.run) (turn_of c.go.new.self) c.in_ok-entry.entry way.formed
+    (sound_turn c.args.exercise.now c.args.rules old way) way.counted c.in_ok-entry.ensures in
     omega (arith, counts.1)
 
 pub returns-clause-sent : goal.returns-clause-sent
@@ -98,7 +99,7 @@ returns-clause-sent g c before was h =
     let old = c.args.self.now in
     let next = turn_of c.go.new.self in
     let e = c.in_ok-entry.entry in
-    let step = (went x c.args.limit old next e way c.in_ok-entry.ensures).0 in
+    let step = (went x c.args.rules old next e way c.in_ok-entry.ensures).0 in
     let step' : JointStep x h.page.joint e next.joint = subst (λ (j : Joint). JointStep x j e next.joint) (sym h.same) step in
     let len : length c.push.new.self.items ≡ length old.shown.items + 1 = ap length c.in_ok-push.ensures.items ∙ length-append old.shown.items (e ∷ []) in
     let count : c.len-count.result ≡ h.page.count + 1 = omega (arith, c.len-count.ensures, len, h.count) in

@@ -1,10 +1,12 @@
 use Rattle.std.proofs.Common.{◌≡◌, ◌∷◌, List, ℕ, true, slice_get, sym, ap, ◌∙◌, subst}
+use Rattle.std.proofs.lemmas.Result.{IfOk-weaker}
+use Rattle.tm_base.specs.declared.events.Entry.{Entry}
 use Rattle.tm_replay.specs.Joint.{Joint}
 use Rattle.tm_replay.specs.Sound.{IsSoundJoint}
 use Rattle.tm_replay.specs.Bars.{is_stuck, has_waiter}
 use Rattle.tm_session.specs.Scenes.{joint_of, IsEarly}
-use Rattle.tm_session.specs.Turns.{GoesBy}
-use Rattle.tm_session.specs.Running.{turn_of, AreWaited}
+use Rattle.tm_session.specs.Turns.{Goes, GoesBy}
+use Rattle.tm_session.specs.Running.{turn_of, AreWaited, MovesOn}
 use Rattle.tm_session.proofs.Stopping.{due-waited, none-due}
 use Rattle.tm_session.proofs.Turning.{moves}
 use Rattle.tm_session.proofs.turns.Run.go.Goals as goal
@@ -35,6 +37,9 @@ returns-in-None c =
     let x = c.args.exercise.now in
     let old = joint_of c.args.self.now.scene in
     let due = rw c.in-None.is at c.in_ok-object.ensures.due in
-    let m = c.move_on.ensures in
-    subst (λ (stops : List ℕ). GoesBy x c.args.limit (turn_of c.args.self.now) stops c.move_on.result (turn_of c.move_on.new.self)) (sym due.0)
-    (moves x c.args.limit (turn_of c.args.self.now) c.due.new.self c.move_on.new.self c.move_on.result (ap joint_of c.in_ok-object.ensures.scene) c.in_ok-object.ensures.last due.1 m)
+    let P : Entry → Type 0 = λ e. MovesOn x c.args.rules c.due.new.self e c.move_on.new.self in
+    let Q : Entry → Type 0 = λ e. Goes x c.args.rules (turn_of c.args.self.now) e (turn_of c.move_on.new.self) in
+    IfOk-weaker c.move_on.result P Q
+    (λ e m. subst (λ (stops : List ℕ). GoesBy x c.args.rules (turn_of c.args.self.now) stops e (turn_of c.move_on.new.self)) (sym due.0)
+    (moves x c.args.rules (turn_of c.args.self.now) c.due.new.self c.move_on.new.self e (ap joint_of c.in_ok-object.ensures.scene) c.in_ok-object.ensures.last c.in_ok-object.ensures.draw due.1 m))
+    c.move_on.ensures

@@ -7,7 +7,7 @@ use Rattle.tm_replay.specs.Sound.{IsSoundJoint}
 use Rattle.tm_replay.specs.JointSteps.{MayIn}
 use Rattle.tm_replay.specs.Bars.{bars_of}
 use Rattle.tm_session.specs.Scenes.{joint_of}
-use Rattle.tm_session.specs.Turns.{next_thread}
+use Rattle.tm_session.specs.Choices.{chosen_thread}
 use Rattle.tm_session.proofs.Choosing.{bars-count, some-chosen}
 use Rattle.tm_session.proofs.Moving.{IsChosen, chosen, chosen-goes, chosen-asks, chosen-performs, chosen-step}
 use Rattle.tm_session.proofs.turns.Run.move_on.Goals as goal
@@ -18,30 +18,33 @@ count x j bars sound same =
     let len : length bars ≡ length (bars_of j) = ap length same in
     omega (arith, len, bars-count j, sound.thread_count)
 
+chose : (c : In-Some) → chosen_thread c.args.rules.schedule c.args.bars.now c.args.self.now.last c.draw_after-draw.result ≡ Some c.in-Some.thread
+chose c = sym c.in_ok-thread.ensures ∙ c.in-Some.is
+
 is_chosen : (c : In-Some) → IsChosen c.args.exercise.now (joint_of c.args.self.now.scene) c.requires.running.formed c.requires.running.sound c.in-Some.thread
 is_chosen c =
     let j = joint_of c.args.self.now.scene in
-    chosen c.args.exercise.now j c.requires.running.formed c.requires.running.sound c.args.self.now.last c.in-Some.thread
-    (ap (λ bars. next_thread bars c.args.self.now.last) (sym c.requires.bars) ∙ sym c.in-Some.ensures)
+    chosen c.args.exercise.now j c.requires.running.formed c.requires.running.sound c.args.rules.schedule c.args.self.now.last c.draw_after-draw.result c.in-Some.thread
+    (ap (λ bars. chosen_thread c.args.rules.schedule bars c.args.self.now.last c.draw_after-draw.result) (sym c.requires.bars) ∙ chose c)
 
 seat_of : (c : After-index) → c.in-Some.thread < length (joint_of c.args.self.now.scene).standings → slice_get (joint_of c.args.self.now.scene).standings c.in-Some.thread ≡ Some c.index.result.now
 seat_of c within =
     let j = joint_of c.args.self.now.scene in
     slice_get_read j.standings (length j.standings) c.in-Some.thread c.index.result.now refl within c.index.ensures
 
-pub next_runnable-requires-clause-few : goal.next_runnable-requires-clause-few
-next_runnable-requires-clause-few c =
+pub choose-requires-clause-few : goal.choose-requires-clause-few
+choose-requires-clause-few c =
     omega (arith, count c.args.exercise.now (joint_of c.args.self.now.scene) c.args.bars.now c.requires.running.sound c.requires.bars, c.requires.running.formed.few_threads)
 
-pub next_runnable-requires-clause-known : goal.next_runnable-requires-clause-known
-next_runnable-requires-clause-known c =
+pub choose-requires-clause-known : goal.choose-requires-clause-known
+choose-requires-clause-known c =
     omega (arith, count c.args.exercise.now (joint_of c.args.self.now.scene) c.args.bars.now c.requires.running.sound c.requires.bars, c.requires.running.last)
 
 pub unreachable-requires : goal.unreachable-requires
 unreachable-requires c =
     let few : c.args.self.now.last ≤ length c.args.bars.now =
     omega (arith, count c.args.exercise.now (joint_of c.args.self.now.scene) c.args.bars.now c.requires.running.sound c.requires.bars, c.requires.running.last) in
-    some-chosen c.args.bars.now c.args.self.now.last few c.requires.going c.requires.free (sym c.in_default.ensures)
+    some-chosen c.args.rules.schedule c.args.bars.now c.args.self.now.last c.draw_after-draw.result few c.requires.going c.requires.free (sym c.in_ok-thread.ensures ∙ c.in_default.is)
 
 pub own-own-requires-clause-program : goal.own-own-requires-clause-program
 own-own-requires-clause-program c = (is_chosen (goal.at.own-own-requires-clause-program c).In-Some).program
@@ -78,10 +81,12 @@ returns c =
     let moved = chosen-step c.args.exercise.now (joint_of c.args.self.now.scene) c.requires.running.formed c.requires.running.sound c.in-Some.thread c.index.result.now
     (is_chosen (goal.at.returns c).In-Some) (seat_of d (is_chosen (goal.at.returns c).In-Some).within) c.wish-wish.result
     (subst (λ (own : ℕ). MayIn own c.index.result.now.phase c.index.result.now.rest c.wish-wish.result.object c.wish-wish.result.op) c.own-own.ensures c.wish-wish.ensures.may)
-    (joint_of c.perform.new.self) c.perform.result c.perform.ensures c.args.limit c.wish-wish.ensures.limit in
+    (joint_of c.perform.new.self) c.perform.result c.perform.ensures c.args.rules.limit c.wish-wish.ensures.limit in
     record {
       step = moved.0;
-      chosen = ap (λ bars. next_thread bars c.args.self.now.last) (sym c.requires.bars) ∙ sym c.in-Some.ensures ∙ ap Some (sym c.perform.ensures.by);
+      draw = c.draw_after-draw.ensures;
+      chosen = ap (λ bars. chosen_thread c.args.rules.schedule bars c.args.self.now.last c.draw_after-draw.result) (sym c.requires.bars)
+          ∙ chose (goal.at.returns c).In-Some ∙ ap Some (sym c.perform.ensures.by);
       limit = moved.1;
       stops = refl;
       last = sym c.perform.ensures.by;

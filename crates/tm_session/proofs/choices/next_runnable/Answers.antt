@@ -1,6 +1,6 @@
 use Rattle.std.proofs.Common.{sym, ◌∙◌}
 use Rattle.tm_session.proofs.Choosing.{next_thread-first, next_thread-second}
-use Rattle.tm_session.proofs.turns.next_runnable.Goals as goal
+use Rattle.tm_session.proofs.choices.next_runnable.Goals as goal
 
 pub returns-in-Some : goal.returns-in-Some
 returns-in-Some c = sym (next_thread-first c.args.bars.now c.args.last c.in-Some.thread (sym c.in-Some.ensures))

@@ -1,0 +1,8 @@
+/// What a run keeps to besides its exercise.
+#[derive(Clone, Copy, Debug, PartialEq, Eq)]
+pub struct Rules {
+    /// 0 for the threads in cyclic order, else the number that the draws begin with.
+    pub schedule: u64,
+    /// How many calls a thread may make, its `begin` and `end` not counted.
+    pub limit: u32,
+}
