@@ -1,2 +1,5 @@
 pub mod AnyMachines
 pub mod Made
+pub mod Answering
+pub mod Books
+pub mod StoredBooks

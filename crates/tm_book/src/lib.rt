@@ -1,15 +1,17 @@
 //! Any of the objects of textbooks, and the books that keep their histories.
 #![tactic(auto)]
 
+mod books;
 mod machines;
 
+pub use books::Book;
 pub use machines::AnyMachine;
 
 #[cfg(test)]
 mod tests {
     use super::*;
     use std::test::Fail;
-    use tm_base::{Kind, Machine, Op, Reply};
+    use tm_base::{Kind, Machine, Op, Reply, Ticket};
 
     #[test]
     fn mutexes(rt: HostRuntime) -> Result<(), Fail> {
@@ -30,6 +32,48 @@ mod tests {
         assert_eq!(rt; machine.step(1, Op::Begin), Reply::Ok);
         machine.stop();
         assert!(rt; machine.stopped());
+        Ok(())
+    }
+
+    #[test]
+    fn a_book_hands_a_mutex_on(rt: HostRuntime) -> Result<(), Fail> {
+        let mut book = Book::make(rt.alloc(), 7, Kind::Mutex, 2)?;
+        let mut first = Ticket::make(1);
+        let mut second = Ticket::make(2);
+        book.make_room()?;
+        assert_eq!(rt; book.enter(&mut first, Op::Lock).reply, Reply::Ok);
+        book.make_room()?;
+        assert_eq!(rt; book.enter(&mut second, Op::Lock).reply, Reply::Wait);
+        assert!(rt; book.finish(&mut second).is_none());
+        book.make_room()?;
+        assert_eq!(rt; book.enter(&mut first, Op::Unlock).reply, Reply::Gave(2));
+        let entry = book.finish(&mut second).ok_or("waits")?;
+        assert_eq!(rt; entry.reply, Reply::Ok);
+        assert_eq!(rt; entry.stamp, 4);
+        assert_eq!(rt; book.last_stamp(), 4);
+        assert_eq!(rt; book.entries().len(), 4);
+        Ok(())
+    }
+
+    #[test]
+    fn a_begin_and_an_end_need_no_room(rt: HostRuntime) -> Result<(), Fail> {
+        let kind = Kind::Thread {
+            own: 1,
+            held: false,
+        };
+        let mut book = Book::make(rt.alloc(), 3, kind, 1)?;
+        let mut own = Ticket::make(1);
+        assert_eq!(rt; book.enter(&mut own, Op::Begin).reply, Reply::Ok);
+        assert_eq!(rt;
+            book.enter(&mut own, Op::End { cut: false }).reply,
+            Reply::Ok
+        );
+        let mut main = Ticket::make(0);
+        assert!(rt; book.stop(&mut main).is_some());
+        assert!(rt; book.stop(&mut main).is_none());
+        assert!(rt; book.machine().stopped());
+        assert_eq!(rt; book.object(), 3);
+        assert_eq!(rt; book.spare(), 1);
         Ok(())
     }
 }
