@@ -9,8 +9,8 @@ use Rattle.tm_laws.specs.Counts.{bit, is_wait}
 use Rattle.tm_laws.specs.Tidy.{IsSound}
 use Rattle.tm_laws.specs.Owed.{owed, paid}
 
--- What contracts see of a book: the object's number, its machine, its events in order, its last stamp (0
--- where there is none), and how many places are free beyond those that are owed.
+-- What contracts see of a book: the object's number, its machine, its events in order, its last
+-- stamp (0 where there is none), and how many places are free beyond those that are owed.
 pub record BookView : Type 0 where
   pub object : ℕ
   pub machine : Held
@@ -26,9 +26,10 @@ label_of b = record { object = b.object; kind = b.machine.kind; threads = b.mach
 abbrev pub point_of : BookView → Point
 point_of b = record { at = length b.entries; stamp = b.stamp; state = b.machine.state }
 
--- What holds of every book that counts this many owed events and has this many places: its events are a
--- legal history of its object from the start, its machine is sound, no stamp has run ahead of the events
--- by more than 2^62, the count is what the machine owes, and the owed events have their places.
+-- What holds of every book that counts this many owed events and has this many places: its events
+-- are a legal history of its object from the start, its machine is sound, no stamp has run ahead of
+-- the events by more than 2^62, the count is what the machine owes, and the owed events have their
+-- places.
 pub record IsKept (b : BookView) (due capacity : ℕ) : Type 0 where
   pub history : IsHistory (label_of b) b.entries (point_of b)
   pub sound : IsSound b.machine
@@ -36,18 +37,18 @@ pub record IsKept (b : BookView) (due capacity : ℕ) : Type 0 where
   pub owes : due ≡ owed b.machine
   pub room : length b.entries + due ≤ capacity
 
--- Two places are free beyond the owed ones, where the operation pays for none: one for its entry, and
--- one for the resume that it may come to owe.
+-- Two places are free beyond the owed ones, where the operation pays for none: one for its entry,
+-- and one for the resume that it may come to owe.
 abbrev pub HasRoom : BookView → Op → Type 0
 HasRoom b o = paid o ≡ 0 → 2 ≤ b.spare
 
--- The thread of the ticket `before` made the entry in the old book, and it leaves the new book and the
--- ticket `later`. In turn: it has the thread of the ticket, and the place that the ticket has for it; it
--- is of the book's object, and has the operation; its place in the object is one more than the last; its
--- stamp is one more than the greater of both last stamps; it is a lawful event, which leaves the state of
--- the new machine; the machine changes in its state alone; the object stays; the entry stands at the end;
--- its stamp is the last; of the free places go its own, and one more where it waits, and those that it
--- paid for come; and the ticket goes on by it.
+-- The thread of the ticket `before` made the entry in the old book, and it leaves the new book and
+-- the ticket `later`. In turn: it has the thread of the ticket, and the place that the ticket has
+-- for it; it is of the book's object, and has the operation; its place in the object is one more
+-- than the last; its stamp is one more than the greater of both last stamps; it is a lawful event,
+-- which leaves the state of the new machine; the machine changes in its state alone; the object
+-- stays; the entry stands at the end; its stamp is the last; of the free places go its own, and one
+-- more where it waits, and those that it paid for come; and the ticket goes on by it.
 pub record IsEntered (old : BookView) (before : Progress) (o : Op) (e : Entry) (new : BookView) (later : Progress) : Type 0 where
   pub thread : e.thread ≡ before.thread
   pub place : e.place ≡ before.next

@@ -16,5 +16,6 @@ book_view b =
       spare = vec_capacity b.entries - (length b.entries.items + b.owed);
     }
 
+-- The fields keep the book: its events are legal, and its owed ones have their places.
 abbrev pub KeepsBook : Inside → Type 0
 KeepsBook b = IsKept (book_view b) b.owed (vec_capacity b.entries)

@@ -17,9 +17,9 @@ use std::alloc::Global;
 use std::marker::Model;
 use tm_base::{Entry, Kind, Machine, NoMemory, Op, Reply, Ticket};
 
-/// One object's history: its machine, its events in order, and its last stamp. It has places for all
-/// events that it owes, so that a resume, a stop, a begin and an end never take memory. Contracts see
-/// these, and how many places are free beyond the owed ones.
+/// One object's history: its machine, its events in order, and its last stamp. It has places for
+/// all events that it owes, so that a resume, a stop, a begin and an end never take memory.
+/// Contracts see these, and how many places are free beyond the owed ones.
 #[derive(Drop)]
 pub struct Book {
     object: u32,
@@ -42,8 +42,8 @@ impl Model for Book {
 }
 
 impl Book {
-    /// The book of an object of the kind before its first event, for threads 1 to `threads`, which are
-    /// at most 64. It has places for what the object owes at its start.
+    /// The book of an object of the kind before its first event, for threads 1 to `threads`, which
+    /// are at most 64. It has places for what the object owes at its start.
     pub fn make(alloc: Global, object: u32, kind: Kind, threads: u32) -> Result<Book, NoMemory>
         requires { CanMake kind threads }
         ensures object { IfOk result (λ book. book.object ≡ object) }
@@ -100,8 +100,9 @@ impl Book {
         self.entries.capacity() - (self.entries.len() + self.owed)
     }
 
-    /// Makes room for one call: a place for its entry and one for its resume. Where they are there it
-    /// takes no memory, and answers `Ok`. Only want of memory refuses it, and leaves all unchanged.
+    /// Makes room for one call: a place for its entry and one for its resume. Where they are there
+    /// it takes no memory, and answers `Ok`. Only want of memory refuses it, and leaves all
+    /// unchanged.
     pub fn make_room(&mut self) -> Result<(), NoMemory>
         ensures room { OnOk result (2 ≤ self.new.spare) }
         ensures same { self.new ≡ record self.old { spare = self.new.spare } }
@@ -124,8 +125,8 @@ impl Book {
         self.append(ticket, op)
     }
 
-    /// Resumes the thread's pending call with the reply that was granted, and answers the entry. `None`
-    /// exactly where the call still waits, and then nothing changes.
+    /// Resumes the thread's pending call with the reply that was granted, and answers the entry.
+    /// `None` exactly where the call still waits, and then nothing changes.
     pub fn finish(&mut self, ticket: &mut Ticket) -> Option<Entry>
         requires here { ticket.old.waits ≡ Some self.old.object }
         requires pending { is_pending self.old.machine.state ticket.old.thread ≡ true }
@@ -140,8 +141,8 @@ impl Book {
         Some(self.append(ticket, Op::Resume))
     }
 
-    /// `main` stops the object: each call that waits is granted `Stopped`. The reply is `Ok`. `None`
-    /// exactly where the object is stopped, and then nothing changes.
+    /// `main` stops the object: each call that waits is granted `Stopped`. The reply is `Ok`.
+    /// `None` exactly where the object is stopped, and then nothing changes.
     pub fn stop(&mut self, ticket: &mut Ticket) -> Option<Entry>
         requires main { ticket.old.thread ≡ 0 }
         requires next { ticket.old.next < 2 ^ 62 }
@@ -207,8 +208,8 @@ fn paid(op: Op) -> usize
     }
 }
 
-/// How many events are owed after one with this reply: one more where the call waits, fewer by those
-/// that it paid.
+/// How many events are owed after one with this reply: one more where the call waits, fewer by
+/// those that it paid.
 fn owed_after(owed: usize, op: Op, reply: Reply) -> usize
     requires small { owed < 2 ^ 63 }
     requires enough { paid op ≤ owed + bit (is_wait reply) }
