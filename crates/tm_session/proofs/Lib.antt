@@ -1,8 +1,11 @@
-pub mod Wishes
+pub mod Limits
+pub mod Seating
 pub mod Progress
 pub mod Blocking
 pub mod Showing
 pub mod Growing
+pub mod Keeping
+pub mod Scenery
 pub mod Making
 pub mod Reading
 pub mod Choosing
@@ -11,3 +14,4 @@ pub mod Moving
 pub mod Turning
 pub mod Rowing
 pub mod Ending
+pub mod Shelving

@@ -14,13 +14,13 @@ use Rattle.tm_replay.specs.JointSteps.{JointStep, May, MayIn}
 use Rattle.tm_replay.specs.Bars.{bar_of, bar_in, bars_of, is_runnable, waits_in, is_some_queued, has_waiter}
 use Rattle.tm_replay.specs.Sound.{IsSoundJoint, is_main}
 use Rattle.tm_replay.proofs.Moves.{Does, may-does, asked-well_formed}
-use Rattle.tm_session.specs.declared.moves.Wish.{Wish}
+use Rattle.tm_session.specs.declared.wishes.Wish.{Wish}
 use Rattle.tm_session.specs.Seats.{GoesOn, AsksCalls}
 use Rattle.tm_session.specs.Scenes.{IsEarly, CanPerform, Performs}
 use Rattle.tm_session.specs.Choices.{chosen_thread}
 use Rattle.tm_session.specs.Turns.{KeepsLimit}
 use Rattle.tm_session.proofs.Choosing.{chosen-runs, runs-known}
-use Rattle.tm_session.proofs.Progress.{does-within, does-answered}
+use Rattle.tm_session.proofs.Progress.{does-within, does-acts}
 use Rattle.tm_session.proofs.Reading.{found_at}
 use Rattle.tm_session.proofs.Showing.{bar_of-seat}
 
@@ -89,7 +89,7 @@ module _ (x : ExerciseView) (j : Joint) (formed : IsWellFormed x) (sound : IsSou
       does : Does (own_of x.objects t) s.phase s.rest w.object w.op
       does = may-does (own_of x.objects t) s.phase s.rest w.object w.op plain may
 
-      -- its object answers it
+      -- the thread can make it there
       pub chosen-performs : IsEarly j → CanPerform j t w
       chosen-performs early =
           let spot = found_at j.objects w.object (does-within x j formed sound t s c.program seat w.object w.op does) in
@@ -99,7 +99,7 @@ module _ (x : ExerciseView) (j : Joint) (formed : IsWellFormed x) (sound : IsSou
             thread = seat;
             spot = spot.0;
             object = spot.1;
-            answers = does-answered x j formed sound t s c.program seat w.object w.op does spot.0 spot.1 (granted spot.0 spot.1);
+            acts = does-acts x j formed sound t s c.program seat w.object w.op does spot.0 spot.1 (granted spot.0 spot.1);
           }
         where
           granted : (b : Place) → slice_get j.objects w.object ≡ Some b → s.phase ≡ phase.Waits w.object → is_waiting b.held.state t ≡ false
@@ -151,7 +151,7 @@ module _ (x : ExerciseView) (j : Joint) (formed : IsWellFormed x) (sound : IsSou
         thread = seat.1;
         spot = spot.0;
         object = spot.1;
-        answers = (refl, running spot.0 spot.1 spot.2);
+        acts = (is_main-phase seat.0.phase ((sound.standings 0 seat.0 seat.1).main ∙ eq-eqb 0 0 refl), refl, running spot.0 spot.1 spot.2);
       }
     where
       by_place : (o : Option Place) → slice_get j.objects object ≡ o → has_waiter o ≡ true → (b : Place) × (slice_get j.objects object ≡ Some b) × (is_some_queued (queued b.held.state.own) ≡ true)

@@ -1,13 +1,13 @@
 -- A thread's next event is one that its object answers.
-use Rattle.std.proofs.Common.{◌≡◌, ℕ, ◌<◌, ◌≤◌, Bool, true, false, ◌||◌, Some, is_some, length, slice_get, refl, ap, sym, ◌∙◌, subst, arith, eq-eqb}
+use Rattle.std.proofs.Common.{◌≡◌, ℕ, ◌<◌, ◌≤◌, Bool, true, false, Some, length, slice_get, refl, ap, sym, ◌∙◌, subst, arith, eq-eqb}
 use Rattle.std.proofs.lemmas.Option.{slice_get_within}
 use Rattle.tm_base.specs.declared.operations.Op.{Op}
 use Rattle.tm_base.specs.declared.operations.Op.TheVariants as op
 use Rattle.tm_base.specs.declared.kinds.Kind.{Kind}
 use Rattle.tm_base.specs.declared.kinds.Kind.TheVariants as kind
 use Rattle.tm_base.specs.Fits.{fits}
-use Rattle.tm_base.specs.States.{Own, State, ThreadOwn, grant_of, is_pending, is_waiting}
-use Rattle.tm_base.specs.Machines.{Held, CanStep, IsInTurn, is_step}
+use Rattle.tm_base.specs.States.{Own, ThreadOwn, is_pending, is_waiting}
+use Rattle.tm_base.specs.Machines.{IsInTurn, is_step}
 use Rattle.tm_laws.specs.Tidy.{IsOwnOf}
 use Rattle.tm_laws.specs.ThreadObjects.{has_begun, has_ended}
 use Rattle.tm_text.specs.declared.exercises.Declared.{Declared}
@@ -17,15 +17,11 @@ use Rattle.tm_replay.specs.declared.phases.Phase.{Phase}
 use Rattle.tm_replay.specs.declared.phases.Phase.TheVariants as phase
 use Rattle.tm_replay.specs.Joint.{Joint, Standing, Place}
 use Rattle.tm_replay.specs.JointSteps.{is_call}
-use Rattle.tm_replay.specs.Sound.{IsSoundJoint, IsPlaced, IsAmong, is_begun, is_past, waits_at}
+use Rattle.tm_replay.specs.Sound.{is_main, IsSoundJoint, IsPlaced, IsAmong, is_begun, is_past, waits_at}
 use Rattle.tm_replay.proofs.Moves.{Does, begins, ends, calls, resumes, asked-well_formed}
-use Rattle.tm_session.specs.Entering.{CanAnswer}
-
--- what is made by a step may be answered where it can be stepped
-CanAnswer-step : (h : Held) (t : ℕ) (o : Op) → CanStep h t o → CanAnswer h t o
-CanAnswer-step h t op.Resume may = absurd (let e : false ≡ true = may.step in cc)
-CanAnswer-step h t op.Stop may = absurd (let e : false ≡ true = may.step in cc)
-CanAnswer-step h t o may = may
+use Rattle.tm_session.specs.Seats.{waits_in}
+use Rattle.tm_session.specs.Acting.{CanAct}
+use Rattle.tm_session.proofs.Seating.{CanAct-step}
 
 call-steps : (o : Op) → is_call o ≡ true → is_step o ≡ true
 call-steps op.Begin e = absurd cc
@@ -51,9 +47,6 @@ end-turn : (k : Kind) (own : Own) (t : ℕ) (cut : Bool) → IsOwnOf k own → t
 end-turn (kind.Thread n held) (ThreadOwn started begun ended beginning joiners) t cut shape e begun' not = (let same : n ≡ t = cc in sym same, begun', not)
 end-turn (kind.Thread n held) own t cut shape e begun' not = elim shape [ ]
 end-turn k own t cut shape e begun' not = absurd cc
-
-granted_where_pending : (s : State) (t : ℕ) → is_pending s t ≡ true → is_waiting s t ≡ false → is_some (grant_of s t) ≡ true
-granted_where_pending s t pending free = ap (λ b. b || is_some (grant_of s t)) (sym free) ∙ pending
 
 module _ (x : ExerciseView) (j : Joint) (formed : IsWellFormed x) (sound : IsSoundJoint x j)
     (t : ℕ) (s : Standing) (program : 1 ≤ t) (seat : slice_get j.standings t ≡ Some s)
@@ -100,12 +93,12 @@ module _ (x : ExerciseView) (j : Joint) (formed : IsWellFormed x) (sound : IsSou
     life : object ≡ own_of x.objects t → (has_begun b.held.state.own ≡ is_begun s.phase) × (has_ended b.held.state.own ≡ is_past s.phase)
     life e = sound.life t s b program seat (subst (λ (n : ℕ). slice_get j.objects n ≡ Some b) e spot)
 
-    -- its object answers it
-    pub does-answered : CanAnswer b.held t o
-    does-answered = go does
+    -- the thread can make it there
+    pub does-acts : CanAct s.phase t object b.held o
+    does-acts = go does
       where
-        go : Does (own_of x.objects t) s.phase s.rest object o → CanAnswer b.held t o
-        go (begins p e is) = subst (CanAnswer b.held t) (sym is) (CanAnswer-step b.held t op.Begin (record {
+        go : Does (own_of x.objects t) s.phase s.rest object o → CanAct s.phase t object b.held o
+        go (begins p e is) = subst (CanAct s.phase t object b.held) (sym is) (CanAct-step s.phase t object b.held op.Begin (ap waits_in p) (ap is_main p) (record {
           program = program;
           known = few;
           free = free (ap (λ q. waits_at q object) p);
@@ -113,7 +106,7 @@ module _ (x : ExerciseView) (j : Joint) (formed : IsWellFormed x) (sound : IsSou
           step = refl;
           in_turn = begin-turn b.held.kind b.held.state.own t placed.sound.own (on_own e) ((life e).0 ∙ ap is_begun p);
         }))
-        go (ends p e cut is) = subst (CanAnswer b.held t) (sym is) (CanAnswer-step b.held t (op.End cut) (record {
+        go (ends p e cut is) = subst (CanAct s.phase t object b.held) (sym is) (CanAct-step s.phase t object b.held (op.End cut) (ap waits_in p) (ap is_main p) (record {
           program = program;
           known = few;
           free = free (ap (λ q. waits_at q object) p);
@@ -125,7 +118,7 @@ module _ (x : ExerciseView) (j : Joint) (formed : IsWellFormed x) (sound : IsSou
             let stands = sound.standings t s seat in
             let a = asked-well_formed x formed t stands.done s.rest.left stands.left object o asked in
             let mutex : b.held.kind ≡ kind.Mutex = kind_is a.mutex.0 a.mutex.1 ∙ a.mutex.2 in
-            CanAnswer-step b.held t o (record {
+            CanAct-step s.phase t object b.held o (ap waits_in p) (ap is_main p) (record {
               program = program;
               known = few;
               free = free (ap (λ q. waits_at q object) p);
@@ -135,4 +128,4 @@ module _ (x : ExerciseView) (j : Joint) (formed : IsWellFormed x) (sound : IsSou
             })
         go (resumes p is) =
             let pending : is_pending b.held.state t ≡ true = sound.pending t object s b program seat spot ∙ ap (λ q. waits_at q object) p ∙ eq-eqb object object refl in
-            subst (CanAnswer b.held t) (sym is) (granted_where_pending b.held.state t pending (runs p))
+            subst (CanAct s.phase t object b.held) (sym is) (p, pending, runs p)

@@ -24,7 +24,6 @@ can_show x j t s sound program seat = go s.phase refl (sound.standings t s seat)
           spot = b;
           found = found;
           pending = sound.pending t object s b program seat found ∙ ap (λ p. waits_at p object) e ∙ eq-eqb object object refl;
-          sound = (sound.objects object b found).sound;
         }
     go phase.Main e among = tt
     go phase.NotBegun e among = tt

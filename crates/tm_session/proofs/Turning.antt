@@ -16,8 +16,8 @@ use Rattle.tm_session.specs.declared.turns.Run.{Run}
 use Rattle.tm_session.specs.declared.rules.Rules.{Rules}
 use Rattle.tm_session.specs.Choices.{draw_after}
 use Rattle.tm_session.specs.Scenes.{joint_of}
-use Rattle.tm_session.specs.Turns.{Turn, first_turn, BeginsAlone, Goes, GoesBy, Moves, due_stops}
-use Rattle.tm_session.specs.Running.{turn_of, MovesOn, AreWaited}
+use Rattle.tm_session.specs.Turns.{Turn, first_turn, BeginsAlone, Goes, GoesBy, Halts, Moves, due_stops}
+use Rattle.tm_session.specs.Running.{turn_of, MovesOn, Stops, AreWaited}
 use Rattle.tm_session.proofs.Stopping.{due-waited, waited-after}
 
 -- a thread that went on, from a run that differs from the old one in its due objects alone
@@ -26,6 +26,13 @@ moves x rules p mid new e joint last draw stops m =
     subst (λ (j : Joint). Moves x rules (record { joint = j; last = p.last; draw = p.draw; stops = p.stops }) e (turn_of new)) joint
     (subst (λ (l : ℕ). Moves x rules (record { joint = joint_of mid.scene; last = l; draw = p.draw; stops = p.stops }) e (turn_of new)) last
     (record { step = m.step; draw = m.draw ∙ ap (draw_after rules.schedule) draw; chosen = m.chosen; limit = m.limit; stops = m.stops ∙ stops; last = m.last }))
+
+-- an object that was stopped, from such a run
+pub halts : (x : ExerciseView) (p : Turn) (mid new : Run) (object : ℕ) (e : Entry) → joint_of mid.scene ≡ p.joint → mid.last ≡ p.last → mid.draw ≡ p.draw → Stops x mid object e new
+    → Halts x p object mid.stops.items e (turn_of new)
+halts x p mid new object e joint last draw s =
+    subst (λ (j : Joint). Halts x (record { joint = j; last = p.last; draw = p.draw; stops = p.stops }) object mid.stops.items e (turn_of new)) joint
+    (record { step = s.step; stop = s.stop; object = s.object; stops = s.stops; last = s.last ∙ last; draw = s.draw ∙ draw })
 
 -- what holds of a turn of a run
 pub record IsSoundTurn (x : ExerciseView) (p : Turn) : Type 0 where

@@ -1,10 +1,12 @@
-pub mod Entering
 pub mod Choices
 pub mod Turns
 pub mod Seats
+pub mod StoredSeats
+pub mod Acting
 pub mod Pages
 pub mod Sending
 pub mod Scenes
 pub mod Running
 pub mod Sessions
+pub mod Shelves
 pub mod Cuts

@@ -1,6 +1,7 @@
 -- A run as the session keeps it.
 use Rattle.std.specs.Prelude.{◌≡◌, ℕ, ◌≤◌, ◌<◌, true, List, [], ◌∷◌, length, slice_get, Some}
 use Rattle.std.specs.List.{AllByRecursion}
+use Rattle.tm_base.specs.declared.operations.Op.TheVariants as op
 use Rattle.tm_base.specs.declared.events.Entry.{Entry}
 use Rattle.tm_text.specs.Exercises.{ExerciseView, IsWellFormed}
 use Rattle.tm_replay.specs.Joint.{Joint}
@@ -8,7 +9,7 @@ use Rattle.tm_replay.specs.JointSteps.{JointStep}
 use Rattle.tm_replay.specs.Bars.{bars_of, has_waiter}
 use Rattle.tm_replay.specs.Sound.{IsSoundJoint}
 use Rattle.tm_session.specs.declared.turns.Run.{Run}
-use Rattle.tm_session.specs.Scenes.{joint_of, IsEarly}
+use Rattle.tm_session.specs.Scenes.{joint_of, IsEarly, HasKeptAll}
 use Rattle.tm_session.specs.declared.rules.Rules.{Rules}
 use Rattle.tm_session.specs.Choices.{chosen_thread, draw_after}
 use Rattle.tm_session.specs.Turns.{Turn, KeepsLimit}
@@ -29,6 +30,7 @@ pub record IsRunning (x : ExerciseView) (run : Run) : Type 0 where
   pub early : IsEarly (joint_of run.scene)
   pub last : run.last ≤ length x.programs
   pub waited : AreWaited (joint_of run.scene) run.stops.items
+  pub kept : HasKeptAll run.scene
 
 -- `main` can stop the object: it has a waiter.
 pub record HaltsAt (x : ExerciseView) (run : Run) (object : ℕ) : Type 0 where
@@ -36,6 +38,16 @@ pub record HaltsAt (x : ExerciseView) (run : Run) (object : ℕ) : Type 0 where
   pub sound : IsSoundJoint x (joint_of run.scene)
   pub early : IsEarly (joint_of run.scene)
   pub waited : has_waiter (slice_get (joint_of run.scene).objects object) ≡ true
+  pub kept : HasKeptAll run.scene
+
+-- `main` stopped the object.
+pub record Stops (x : ExerciseView) (old : Run) (due : ℕ) (e : Entry) (new : Run) : Type 0 where
+  pub step : JointStep x (joint_of old.scene) e (joint_of new.scene)
+  pub stop : e.op ≡ op.Stop
+  pub object : e.object ≡ due
+  pub stops : new.stops.items ≡ old.stops.items
+  pub last : new.last ≡ old.last
+  pub draw : new.draw ≡ old.draw
 
 -- The thread that the schedule chooses went on, within its limit.
 pub record MovesOn (x : ExerciseView) (rules : Rules) (old : Run) (e : Entry) (new : Run) : Type 0 where

@@ -1,20 +1,45 @@
 -- The joint state that a session keeps, and one event in it.
-use Rattle.std.specs.Prelude.{◌≡◌, ℕ, suc, ◌^◌, ◌<◌, max, true, Some, slice_get, slice_set}
+use Rattle.std.specs.Prelude.{◌≡◌, ℕ, suc, ◌^◌, ◌<◌, max, true, List, [], map, Some, slice_get, slice_set}
 use Rattle.tm_base.specs.declared.events.Entry.{Entry}
+use Rattle.tm_base.specs.Orders.{of_object}
 use Rattle.tm_base.specs.States.{State, is_pending}
 use Rattle.tm_base.specs.Histories.{Lawful}
-use Rattle.tm_laws.specs.Tidy.{IsSound}
+use Rattle.tm_book.specs.Books.{BookView}
 use Rattle.tm_replay.specs.declared.phases.Phase.{Phase}
 use Rattle.tm_replay.specs.declared.phases.Phase.TheVariants as phase
 use Rattle.tm_replay.specs.Joint.{Joint, Standing, Place}
 use Rattle.tm_replay.specs.JointSteps.{stepped, entered}
 use Rattle.tm_replay.specs.Work.{IsCounted}
 use Rattle.tm_session.specs.declared.scenes.Scene.{Scene}
-use Rattle.tm_session.specs.declared.moves.Wish.{Wish}
-use Rattle.tm_session.specs.Entering.{CanAnswer}
+use Rattle.tm_session.specs.declared.wishes.Wish.{Wish}
+use Rattle.tm_session.specs.Seats.{SeatView}
+use Rattle.tm_session.specs.Acting.{CanAct, place_of}
 
 abbrev pub joint_of : Scene → Joint
-joint_of s = record { objects = s.objects.items; standings = s.seats.items }
+joint_of s = record { objects = map place_of s.books.items; standings = map (λ v. v.standing) s.seats.items }
+
+-- The books are those of the objects 0, 1, 2 and so on, and each has kept the events of its object out of
+-- these, in their order.
+abbrev pub HaveKept : List Entry → List BookView → Type 0
+HaveKept events books = (o : ℕ) (b : BookView) → slice_get books o ≡ Some b → (b.object ≡ o) × (b.entries ≡ of_object events o)
+
+-- The books have no events yet.
+abbrev pub AreFresh : List BookView → Type 0
+AreFresh books = HaveKept [] books
+
+-- The seats are those of the threads 0, 1, 2 and so on.
+abbrev pub AreNumbered : List SeatView → Type 0
+AreNumbered seats = (t : ℕ) (v : SeatView) → slice_get seats t ≡ Some v → v.thread ≡ t
+
+-- The scene's books have kept these events.
+pub record HasKept (events : List Entry) (s : Scene) : Type 0 where
+  pub books : HaveKept events s.books.items
+  pub seats : AreNumbered s.seats.items
+
+-- The books have kept all events so far, whichever they are.
+pub record HasKeptAll (s : Scene) : Type 0 where
+  pub events : List Entry
+  pub kept : HasKept events s
 
 -- There were few events so far, so that places and stamps are small.
 pub record IsEarly (j : Joint) : Type 0 where
@@ -22,14 +47,14 @@ pub record IsEarly (j : Joint) : Type 0 where
   pub few : events < 2 ^ 30
   pub counted : IsCounted events j
 
--- The thread and the object are there, and the object answers the thread.
+-- The thread and the object are there, and the thread can do it there.
 pub record CanPerform (j : Joint) (t : ℕ) (w : Wish) : Type 0 where
   pub early : IsEarly j
   pub standing : Standing
   pub thread : slice_get j.standings t ≡ Some standing
   pub spot : Place
   pub object : slice_get j.objects w.object ≡ Some spot
-  pub answers : CanAnswer spot.held t w.op
+  pub acts : CanAct standing.phase t w.object spot.held w.op
 
 -- The thread made the event that it wished: all of a joint step but that the thread may do it.
 pub record Performs (j : Joint) (t : ℕ) (w : Wish) (e : Entry) (k : Joint) : Type 0 where
@@ -53,7 +78,6 @@ pub record IsPendingAt (j : Joint) (t object : ℕ) : Type 0 where
   pub spot : Place
   pub found : slice_get j.objects object ≡ Some spot
   pub pending : is_pending spot.held.state t ≡ true
-  pub sound : IsSound spot.held
 
 -- Where the phase says that the thread waits, its call is pending there.
 abbrev pub CanShow : Joint → ℕ → Phase → Type 0

@@ -1,5 +1,5 @@
 -- A thread's place in a run.
-use Rattle.std.specs.Prelude.{◌≡◌, ℕ, List, Bool, true, false, Option, MatchBool}
+use Rattle.std.specs.Prelude.{◌≡◌, ℕ, List, Bool, true, false, Option, Some, None, MatchBool}
 use Rattle.tm_base.specs.declared.operations.Op.{Op}
 use Rattle.tm_base.specs.declared.operations.Op.TheVariants as op
 use Rattle.tm_base.specs.declared.replies.Reply.{Reply}
@@ -10,8 +10,6 @@ use Rattle.tm_replay.specs.declared.phases.Phase.{Phase}
 use Rattle.tm_replay.specs.declared.phases.Phase.TheVariants as phase
 use Rattle.tm_replay.specs.Joint.{Standing}
 use Rattle.tm_replay.specs.JointSteps.{is_call, is_stopped}
-use Rattle.tm_session.specs.declared.moves.Move.{Move}
-use Rattle.tm_session.specs.declared.moves.Wish.{Wish}
 
 -- A program thread that hasn't ended.
 abbrev pub GoesOn : Phase → Type 0
@@ -19,8 +17,18 @@ GoesOn phase.Main = ⊥
 GoesOn (phase.Ended cut) = ⊥
 GoesOn p = Unit {0}
 
-abbrev pub move_of : ℕ → Standing → Wish → Move
-move_of t s w = record { thread = t; place = s.next; clock = s.stamp; object = w.object; op = w.op }
+-- What contracts see of a seat: the thread's number, and where it stands.
+pub record SeatView : Type 0 where
+  pub thread : ℕ
+  pub standing : Standing
+
+abbrev pub seat_of : ℕ → Standing → SeatView
+seat_of t s = record { thread = t; standing = s }
+
+-- The object at which a thread in this phase waits.
+abbrev pub waits_in : Phase → Option ℕ
+waits_in (phase.Waits object) = Some object
+waits_in p = None
 
 -- Where the thread may make calls it ends cut only after the reply `stopped`; where it may not it makes none.
 abbrev pub IsWithin : Bool → Option Reply → Op → Type 0

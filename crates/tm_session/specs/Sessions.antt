@@ -6,15 +6,15 @@ use Rattle.tm_replay.specs.Work.{IsCounted, work}
 use Rattle.tm_replay.specs.Sound.{IsSoundJoint}
 use Rattle.tm_session.specs.declared.sessions.Session.{Session}
 use Rattle.tm_session.specs.declared.rules.Rules.{Rules}
-use Rattle.tm_session.specs.Scenes.{joint_of}
+use Rattle.tm_session.specs.Scenes.{joint_of, HasKept}
 use Rattle.tm_session.specs.Turns.{BeginsAlone}
 use Rattle.tm_session.specs.Pages.{Page, AreRows}
 use Rattle.tm_session.specs.Running.{turn_of, AreWaited}
 use Rattle.tm_session.specs.Sending.{IsSent}
 
 -- The session is under way: its joint state is sound, its places and stamps are at most the number of
--- events, the work that is left bounds what is still to come, the bars are those of the joint state, and
--- the events so far are the first ones of the alone run.
+-- events, the work that is left bounds what is still to come, the bars are those of the joint state, the
+-- events so far are the first ones of the alone run, and the books have kept them.
 pub record IsUnderWay (x : ExerciseView) (rules : Rules) (s : Session) : Type 0 where
   pub formed : IsWellFormed x
   pub sound : IsSoundJoint x (joint_of s.run.scene)
@@ -24,6 +24,7 @@ pub record IsUnderWay (x : ExerciseView) (rules : Rules) (s : Session) : Type 0 
   pub bounded : length s.shown.items + work (joint_of s.run.scene) ≤ 1000000
   pub bars : s.bars.items ≡ bars_of (joint_of s.run.scene)
   pub begins : BeginsAlone x rules s.shown.items (turn_of s.run)
+  pub kept : HasKept s.shown.items s.run.scene
 
 -- The rows of the events so far were sent to the sink, whose counts of faults and bytes these are at the
 -- start and now.

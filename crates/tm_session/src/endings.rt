@@ -75,7 +75,7 @@ fn cut_threads(
 
 /// Whether the thread ended so.
 fn was_cut(seat: &Seat, cut: Cut) -> bool
-    ensures { result ≡ test_of cut (Some seat.now) }
+    ensures { result ≡ test_of cut (Some seat.now.standing) }
 {
     let ended = matches!(seat.phase(), Phase::Ended { cut: true });
     match cut {

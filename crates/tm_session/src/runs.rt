@@ -2,6 +2,7 @@ ghost use Rattle.std.specs.Prelude.{◌≡◌, ◌≤◌, IfOk, OnErr, List, ℕ
 ghost use Rattle.tm_outside.specs.Appending.{AppendsPrefix};
 ghost use Rattle.tm_replay.specs.Joint.{Joint};
 ghost use Rattle.tm_replay.specs.JointSteps.{IsJointRun};
+ghost use Rattle.tm_session.specs.Shelves.{AreBooksOf};
 ghost use Rattle.tm_session.specs.Pages.{IsAloneText, BeginsAloneText};
 ghost use Rattle.tm_session.specs.Sending.{IsSent};
 ghost use Rattle.tm_session.specs.Turns.{rules_of};
@@ -11,16 +12,19 @@ use crate::sessions::Session;
 use crate::turns::is_over;
 use std::alloc::Global;
 use tm_base::{End, Entries, NoMemory, Sequence};
+use tm_book::Book;
 use tm_outside::Sink;
 use tm_text::Exercise;
 
 /// A run that ended.
-#[derive(Debug, Drop)]
+#[derive(Drop)]
 pub struct Finished {
     /// How it ended.
     pub end: End,
     /// The threads that its last line names, in rising number.
     pub cut: Sequence<u32>,
+    /// The books of its objects, in rising number.
+    pub books: Sequence<Book>,
     /// All its events, in the order of the rows.
     pub shown: Entries,
     /// Whether a write to the sink failed. After the first that fails nothing more is written.
@@ -43,6 +47,8 @@ pub fn alone<K: Sink>(
         × IsSent f.write_fault (K.fault_count sink.old) (K.fault_count sink.new) (K.written sink.old) (K.written sink.new) bytes) }
     // They are a legal run of all objects together.
     ensures legal { IfOk result (λ f. (j : Joint) × IsJointRun exercise.now f.shown j) }
+    // Each object's book has the object's events of these, which are a legal history.
+    ensures books { IfOk result (λ f. AreBooksOf exercise.now f.shown f.books) }
     ensures refused { OnErr result ((bytes : List ℕ) × BeginsAloneText exercise.now (rules_of schedule limit) bytes
         × AppendsPrefix (K.written sink.old) (K.written sink.new) bytes) }
     ensures never_falls { K.fault_count sink.old ≤ K.fault_count sink.new }

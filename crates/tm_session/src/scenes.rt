@@ -1,52 +1,63 @@
-ghost use Rattle.std.specs.Prelude.{◌≡◌, ◌≤◌, ◌<◌, [], ◌∷◌, IfOk, length, map};
+ghost use Rattle.std.specs.Prelude.{◌≡◌, ◌≤◌, ◌<◌, [], ◌∷◌, ◌++◌, List, IfOk, length, map};
 ghost use Rattle.tm_text.specs.Exercises.{IsWellFormed};
 ghost use Rattle.tm_replay.specs.Joint.{start, first_place, first_standing};
 ghost use Rattle.tm_replay.specs.Sound.{IsSoundJoint};
 ghost use Rattle.tm_replay.specs.Bars.{bar_in, bar_of, bars_of, waited_objects};
-ghost use Rattle.tm_session.specs.Scenes.{joint_of, CanPerform, CanShow, Performs};
+ghost use Rattle.tm_session.specs.Acting.{place_of};
+ghost use Rattle.tm_session.specs.Scenes.{joint_of, AreFresh, AreNumbered, CanPerform, CanShow, HasKept, HasKeptAll, Performs};
 
-use crate::moves::Wish;
-use crate::objects::Object;
+use crate::books::{blocks, has_waiter};
 use crate::seats::Seat;
+use crate::wishes::Wish;
 use std::alloc::Global;
 use std::collections::VecDeque;
 use tm_base::{Bar, Entry, NoMemory};
+use tm_book::Book;
 use tm_replay::Phase;
 use tm_text::Exercise;
 
-/// The objects and threads of a run: objects by number, and threads from `main`, which is thread 0.
+/// The objects and threads of a run: the books of its objects by number, and the seats of its threads
+/// from `main`, which is thread 0.
 #[derive(Drop)]
 pub struct Scene {
-    pub objects: Vec<Object>,
+    pub books: Vec<Book>,
     pub seats: Vec<Seat>,
 }
 
 impl Scene {
     /// Nothing has happened yet.
     pub fn make(alloc: Global, exercise: &Exercise) -> Result<Scene, NoMemory>
-        ensures { IfOk result (λ scene. joint_of scene ≡ start exercise.now) }
+        ensures start { IfOk result (λ scene. joint_of scene ≡ start exercise.now) }
+        ensures kept { IfOk result (HasKept []) }
     {
         Ok(Scene {
-            objects: make_objects(alloc, exercise)?,
+            books: make_books(alloc, exercise)?,
             seats: make_seats(alloc, exercise)?,
         })
     }
 
-    /// Makes the event that the thread wishes.
-    pub fn perform(&mut self, thread: u32, wish: Wish) -> Entry
-        requires { CanPerform (joint_of self.old) thread wish }
-        ensures { Performs (joint_of self.old) thread wish result (joint_of self.new) }
+    /// The books of the objects, in rising number.
+    pub fn into_books(self) -> Vec<Book>
+        ensures { result.items ≡ self.books.items }
     {
-        let call = self.seats[thread as usize].move_by(thread, wish);
-        let entry = self.objects[wish.object as usize].enter(&call);
-        self.seats[thread as usize].advance(&entry);
-        entry
+        self.books
+    }
+
+    /// Makes the event that the thread wishes. Only want of memory refuses it.
+    pub fn perform(&mut self, thread: u32, wish: Wish) -> Result<Entry, NoMemory>
+        requires can { CanPerform (joint_of self.old) thread wish }
+        requires kept { HasKeptAll self.old }
+        ensures performs { IfOk result (λ e. Performs (joint_of self.old) thread wish e (joint_of self.new)) }
+        ensures keeps { (es : List Entry) → HasKept es self.old → IfOk result (λ e. HasKept (es ++ e ∷ []) self.new) }
+    {
+        let book = &mut self.books[wish.object as usize];
+        self.seats[thread as usize].act(book, wish.op)
     }
 
     /// What the thread does now. The thread is 1 to the number of threads.
     pub fn bar(&self, exercise: &Exercise, thread: u32) -> Bar
         requires program { 1 ≤ thread }
-        requires known { thread < length self.now.seats.items }
+        requires known { thread < length (joint_of self.now).standings }
         requires sound { IsSoundJoint exercise.now (joint_of self.now) }
         ensures { result ≡ bar_of (joint_of self.now) thread }
     {
@@ -73,7 +84,7 @@ impl Scene {
         requires { CanShow (joint_of self.now) thread (Phase.Waits object) }
         ensures { result ≡ bar_in (joint_of self.now) thread (Phase.Waits object) }
     {
-        if self.objects[object as usize].blocks(thread) {
+        if blocks(&self.books[object as usize], thread) {
             Bar::Blocked
         } else {
             Bar::Granted
@@ -99,7 +110,7 @@ impl Scene {
     {
         let mut waited = VecDeque::new(alloc);
         for object in 0..exercise.objects() {
-            if self.objects[object as usize].has_waiter() {
+            if has_waiter(&self.books[object as usize]) {
                 waited.push_back(object)?;
             }
         }
@@ -107,23 +118,25 @@ impl Scene {
     }
 }
 
-/// The exercise's objects before their first events.
-fn make_objects(alloc: Global, exercise: &Exercise) -> Result<Vec<Object>, NoMemory>
-    ensures { IfOk result (λ objects. objects.items
+/// The books of the exercise's objects before their first events.
+fn make_books(alloc: Global, exercise: &Exercise) -> Result<Vec<Book>, NoMemory>
+    ensures places { IfOk result (λ books. map place_of books.items
         ≡ map (λ d. first_place (length exercise.now.programs) d.kind) exercise.now.objects) }
+    ensures fresh { IfOk result (λ books. AreFresh books.items) }
 {
     let threads = exercise.threads();
-    let mut objects = Vec::new(alloc);
+    let mut books = Vec::new(alloc);
     for object in 0..exercise.objects() {
-        objects.push(Object::make(alloc, threads, exercise.kind(object))?)?;
+        books.push(Book::make(alloc, object, exercise.kind(object), threads)?)?;
     }
-    Ok(objects)
+    Ok(books)
 }
 
 /// The seats of `main` and of the exercise's threads before their first events.
 fn make_seats(alloc: Global, exercise: &Exercise) -> Result<Vec<Seat>, NoMemory>
-    ensures { IfOk result (λ seats. seats.items
+    ensures standings { IfOk result (λ seats. map (λ v. v.standing) seats.items
         ≡ first_standing Phase.Main [] ∷ map (first_standing Phase.NotBegun) exercise.now.programs) }
+    ensures numbered { IfOk result (λ seats. AreNumbered seats.items) }
 {
     let mut seats = Vec::new(alloc);
     seats.push(Seat::main(alloc))?;

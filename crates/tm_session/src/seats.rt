@@ -1,44 +1,50 @@
-ghost use Rattle.std.specs.Prelude.{◌≡◌, ◌<◌, ◌≤◌, ◌+◌, ◌^◌, IfOk, true, false, [], length};
+ghost use Rattle.std.specs.Prelude.{◌≡◌, ◌<◌, ◌≤◌, ◌+◌, ◌^◌, if◌then◌else◌, IfOk, true, false, [], length};
 ghost use Rattle.tm_text.specs.Exercises.{program_of};
 ghost use Rattle.tm_replay.specs.Joint.{first_standing};
-ghost use Rattle.tm_replay.specs.JointSteps.{stepped, MayIn, is_stopped, is_call, is_final, phase_after, phase_by};
+ghost use Rattle.tm_replay.specs.JointSteps.{MayIn, is_stopped, is_call, is_final, phase_after, phase_by, rest_by};
 ghost use Rattle.tm_session.specs.Turns.{KeepsLimit};
-ghost use Rattle.tm_session.specs.Seats.{AsksCalls, GoesOn, IsWithin, move_of};
+ghost use Rattle.tm_session.specs.Seats.{AsksCalls, GoesOn, IsWithin, seat_of};
+ghost use Rattle.tm_session.specs.Acting.{Acts, CanAct};
 
-use crate::moves::{Move, Wish};
+use crate::books::enter;
+use crate::wishes::Wish;
 use std::alloc::Global;
 use std::marker::Model;
-use tm_base::{Ask, Entry, NoMemory, Op, Reply};
+use tm_base::{Ask, Entry, NoMemory, Op, Reply, Ticket};
+use tm_book::Book;
 use tm_replay::Phase;
 use tm_text::{Exercise, Script};
 
-/// Where a thread stands.
+/// A thread's seat: its ticket, its phase, how many calls it has made, and what is left of its program.
+/// Contracts see the thread's number and where it stands.
 #[derive(Drop)]
 pub struct Seat {
+    ticket: Ticket,
     phase: Phase,
-    next: u64,
-    stamp: u64,
     made: u32,
     script: Script,
 }
 
 impl Model for Seat {
-    ghost use Rattle.tm_replay.specs.Joint.{Standing};
+    ghost use Rattle.tm_session.specs.Seats.{SeatView};
 
-    ghost Value = { Standing };
+    ghost Value = { SeatView };
 
-    ghost view = { λ s. record { phase = s.phase; next = s.next; stamp = s.stamp; made = s.made; rest = s.script } };
+    ghost use Rattle.tm_session.specs.StoredSeats.{seat_view, KeepsSeat};
+
+    ghost view = { seat_view };
+
+    ghost invariant = { KeepsSeat };
 }
 
 impl Seat {
     /// The seat of `main`.
     pub fn main(alloc: Global) -> Seat
-        ensures { result ≡ first_standing Phase.Main [] }
+        ensures { result ≡ seat_of 0 (first_standing Phase.Main []) }
     {
         Seat {
+            ticket: Ticket::make(0),
             phase: Phase::Main,
-            next: 1,
-            stamp: 0,
             made: 0,
             script: Script::empty(alloc),
         }
@@ -48,12 +54,11 @@ impl Seat {
     pub fn make(alloc: Global, exercise: &Exercise, thread: u32) -> Result<Seat, NoMemory>
         requires program { 1 ≤ thread }
         requires known { thread ≤ length exercise.now.programs }
-        ensures { IfOk result (λ seat. seat ≡ first_standing Phase.NotBegun (program_of exercise.now thread)) }
+        ensures { IfOk result (λ seat. seat ≡ seat_of thread (first_standing Phase.NotBegun (program_of exercise.now thread))) }
     {
         Ok(Seat {
+            ticket: Ticket::make(thread),
             phase: Phase::NotBegun,
-            next: 1,
-            stamp: 0,
             made: 0,
             script: Script::make(alloc, exercise, thread)?,
         })
@@ -61,24 +66,24 @@ impl Seat {
 
     /// The thread's phase.
     pub fn phase(&self) -> Phase
-        ensures { result ≡ self.now.phase }
+        ensures { result ≡ self.now.standing.phase }
     {
         self.phase
     }
 
     /// The thread's last final reply.
     pub fn last(&self) -> Option<Reply>
-        ensures { result ≡ self.now.rest.last }
+        ensures { result ≡ self.now.standing.rest.last }
     {
         self.script.last()
     }
 
     /// What the thread does next, whose own object this is.
     pub fn wish(&self, own: u32, limit: u32) -> Wish
-        requires goes_on { GoesOn self.now.phase }
-        requires asks { AsksCalls self.now.rest.left }
-        ensures may { MayIn own self.now.phase self.now.rest result.object result.op }
-        ensures limit { KeepsLimit limit self.now result.op }
+        requires goes_on { GoesOn self.now.standing.phase }
+        requires asks { AsksCalls self.now.standing.rest.left }
+        ensures may { MayIn own self.now.standing.phase self.now.standing.rest result.object result.op }
+        ensures limit { KeepsLimit limit self.now.standing result.op }
     {
         match self.phase {
             Phase::NotBegun => Wish {
@@ -94,34 +99,20 @@ impl Seat {
         }
     }
 
-    /// The thread's move that does this.
-    pub fn move_by(&self, thread: u32, wish: Wish) -> Move
-        ensures { result ≡ move_of thread self.now wish }
+    /// Makes the thread's event in the book. Only want of memory refuses it, and leaves the seat as it
+    /// was.
+    pub fn act(&mut self, book: &mut Book, op: Op) -> Result<Entry, NoMemory>
+        requires may { CanAct self.old.standing.phase self.old.thread book.old.object book.old.machine op }
+        requires next { self.old.standing.next < 2 ^ 62 }
+        requires clock { self.old.standing.stamp ≤ 2 ^ 62 }
+        requires made { self.old.standing.made < 2 ^ 31 }
+        ensures { IfOk result (λ e. Acts self.old book.old op e self.new book.new) }
     {
-        Move {
-            thread,
-            place: self.next,
-            clock: self.stamp,
-            object: wish.object,
-            op: wish.op,
-        }
-    }
-
-    /// Goes on by the thread's event.
-    pub fn advance(&mut self, entry: &Entry)
-        requires few { entry.now.place < 2 ^ 62 }
-        requires made { self.old.made < 2 ^ 31 }
-        ensures { self.new ≡ stepped self.old entry.now }
-    {
-        self.next = entry.place + 1;
-        self.stamp = entry.stamp;
-        if is_call(entry.op) {
-            self.made += 1;
-        }
-        if is_final(entry) {
-            self.script.answer(entry.reply);
-        }
-        self.phase = phase_after(self.phase, entry);
+        let entry = enter(book, &mut self.ticket, op)?;
+        self.made = made_after(self.made, op);
+        go_on(&mut self.script, &entry);
+        self.phase = phase_after(self.phase, &entry);
+        Ok(entry)
     }
 }
 
@@ -147,6 +138,23 @@ fn free_wish(script: &Script, own: u32, calls: bool) -> Wish
             object: own,
             op: Op::End { cut: true },
         },
+    }
+}
+
+/// How many calls the thread has made, with this operation.
+fn made_after(made: u32, op: Op) -> u32
+    requires { made < 2 ^ 31 }
+    ensures { result ≡ made + (if is_call op then 1 else 0) }
+{
+    made + u32::from(is_call(op))
+}
+
+/// Goes on with the program after the event.
+fn go_on(script: &mut Script, entry: &Entry)
+    ensures { script.new ≡ rest_by entry.now.op entry.now.reply script.old }
+{
+    if is_final(entry) {
+        script.answer(entry.reply);
     }
 }
 

@@ -83,6 +83,7 @@ impl Session {
         ensures end { IfOk result (λ f. f.end ≡ end_of (joint_of self.run.scene)) }
         ensures cut { IfOk result (λ f. f.cut ≡ named_of (joint_of self.run.scene)) }
         ensures shown { IfOk result (λ f. f.shown ≡ self.shown.items) }
+        ensures books { IfOk result (λ f. f.books ≡ self.run.scene.books.items) }
         ensures sent { IfOk result (λ f. (before : ℕ) (old : Option (List ℕ)) (rows : List ℕ)
             → IsSent self.failed before (K.fault_count sink.old) old (K.written sink.old) rows
             → IsSent f.write_fault before (K.fault_count sink.new) old (K.written sink.new)
@@ -97,6 +98,7 @@ impl Session {
         Ok(Finished {
             end,
             cut: Sequence::from_vec(named),
+            books: Sequence::from_vec(self.run.into_books()),
             shown: Entries::from_vec(self.shown),
             write_fault,
         })

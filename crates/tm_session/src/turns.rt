@@ -1,20 +1,19 @@
-ghost use Rattle.std.specs.Prelude.{◌≡◌, IfOk, OnOk, MatchOption, not, [], ◌∷◌, false};
+ghost use Rattle.std.specs.Prelude.{◌≡◌, IfOk, OnOk, MatchOption, not, List, [], ◌∷◌, ◌++◌, false};
 ghost use Rattle.std.specs.List.{list_all};
-ghost use Rattle.tm_base.specs.declared.operations.Op.TheVariants as op;
 ghost use Rattle.tm_text.specs.Exercises.{IsWellFormed};
 ghost use Rattle.tm_replay.specs.Bars.{bars_of, is_over, is_runnable, is_stuck};
-ghost use Rattle.tm_replay.specs.JointSteps.{JointStep};
-ghost use Rattle.tm_session.specs.Scenes.{joint_of};
-ghost use Rattle.tm_session.specs.Running.{turn_of, IsRunning, HaltsAt, MovesOn};
+ghost use Rattle.tm_session.specs.Scenes.{joint_of, HasKept};
+ghost use Rattle.tm_session.specs.Running.{turn_of, IsRunning, HaltsAt, MovesOn, Stops};
 ghost use Rattle.tm_session.specs.Turns.{Goes, due_stops, first_turn};
 
 use crate::choices::{choose, draw_after, is_runnable};
-use crate::moves::Wish;
 use crate::rules::Rules;
 use crate::scenes::Scene;
+use crate::wishes::Wish;
 use std::alloc::Global;
 use std::collections::VecDeque;
 use tm_base::{Bar, Entry, NoMemory, Op};
+use tm_book::Book;
 use tm_text::Exercise;
 
 /// A run as far as it has come: all objects and threads, the thread that moved last (0 where none
@@ -31,7 +30,8 @@ pub struct Run {
 impl Run {
     /// Nothing has happened yet.
     pub fn make(alloc: Global, exercise: &Exercise, rules: Rules) -> Result<Run, NoMemory>
-        ensures { IfOk result (λ run. turn_of run ≡ first_turn exercise.now rules) }
+        ensures start { IfOk result (λ run. turn_of run ≡ first_turn exercise.now rules) }
+        ensures kept { IfOk result (λ run. HasKept [] run.scene) }
     {
         Ok(Run {
             scene: Scene::make(alloc, exercise)?,
@@ -39,6 +39,13 @@ impl Run {
             draw: rules.schedule,
             stops: VecDeque::new(alloc),
         })
+    }
+
+    /// The books of the objects, in rising number.
+    pub fn into_books(self) -> Vec<Book>
+        ensures { result.items ≡ self.scene.books.items }
+    {
+        self.scene.into_books()
     }
 
     /// Makes the run's next event, in a joint state with these bars.
@@ -52,10 +59,11 @@ impl Run {
         requires running { IsRunning exercise.now self.old }
         requires bars { bars.now ≡ bars_of (joint_of self.old.scene) }
         requires going { is_over bars.now ≡ false }
-        ensures { IfOk result (λ e. Goes exercise.now rules (turn_of self.old) e (turn_of self.new)) }
+        ensures goes { IfOk result (λ e. Goes exercise.now rules (turn_of self.old) e (turn_of self.new)) }
+        ensures keeps { (es : List Entry) → HasKept es self.old.scene → IfOk result (λ e. HasKept (es ++ e ∷ []) self.new.scene) }
     {
         match self.due(alloc, exercise, bars)? {
-            Some(object) => Ok(self.halt(exercise, object)),
+            Some(object) => self.halt(exercise, object),
             None => self.move_on(alloc, exercise, bars, rules),
         }
     }
@@ -100,14 +108,10 @@ impl Run {
     }
 
     /// `main` stops the object.
-    fn halt(&mut self, exercise: &Exercise, object: u32) -> Entry
+    fn halt(&mut self, exercise: &Exercise, object: u32) -> Result<Entry, NoMemory>
         requires { HaltsAt exercise.now self.old object }
-        ensures step { JointStep exercise.now (joint_of self.old.scene) result (joint_of self.new.scene) }
-        ensures stop { result.op ≡ op.Stop }
-        ensures object { result.object ≡ object }
-        ensures stops { self.new.stops.items ≡ self.old.stops.items }
-        ensures last { self.new.last ≡ self.old.last }
-        ensures draw { self.new.draw ≡ self.old.draw }
+        ensures stops { IfOk result (λ e. Stops exercise.now self.old object e self.new) }
+        ensures keeps { (es : List Entry) → HasKept es self.old.scene → IfOk result (λ e. HasKept (es ++ e ∷ []) self.new.scene) }
     {
         let _exercise = exercise;
         self.scene.perform(
@@ -131,7 +135,8 @@ impl Run {
         requires bars { bars.now ≡ bars_of (joint_of self.old.scene) }
         requires going { is_over bars.now ≡ false }
         requires free { is_stuck bars.now ≡ false }
-        ensures { IfOk result (λ e. MovesOn exercise.now rules self.old e self.new) }
+        ensures moves { IfOk result (λ e. MovesOn exercise.now rules self.old e self.new) }
+        ensures keeps { (es : List Entry) → HasKept es self.old.scene → IfOk result (λ e. HasKept (es ++ e ∷ []) self.new.scene) }
     {
         let draw = draw_after(rules.schedule, self.draw);
         let Some(thread) = choose(alloc, bars, rules.schedule, self.last, draw)? else {
@@ -141,7 +146,7 @@ impl Run {
         let wish = self.scene.seats[thread as usize].wish(own, rules.limit);
         self.last = thread;
         self.draw = draw;
-        Ok(self.scene.perform(thread, wish))
+        self.scene.perform(thread, wish)
     }
 }
 

@@ -6,19 +6,21 @@ use Rattle.tm_replay.specs.Ends.{threads_where}
 use Rattle.tm_session.specs.Scenes.{joint_of}
 use Rattle.tm_session.specs.Cuts.{test_of}
 use Rattle.tm_session.proofs.Growing.{filter-range_more}
+use Rattle.tm_session.proofs.Scenery.{count-seats, seat-at}
 use Rattle.tm_session.proofs.Ending.{programs}
 use Rattle.tm_session.proofs.endings.cut_threads.Goals as goal
 use Rattle.tm_session.proofs.endings.cut_threads.Goals.{After-loop-thread, then-was_cut+in_ok-push, else-was_cut}
 
 pub loop-thread-preserved : goal.loop-thread-preserved
 loop-thread-preserved c =
-    let items = c.args.scene.now.seats.items in
+    let scene = c.args.scene.now in
+    let items = (joint_of scene).standings in
     let t = c.loop-thread.thread in
     let p = λ (n : ℕ). test_of c.args.cut (slice_get items n) in
     let last : 1 + (t - 1) ≡ t = omega (arith, c.loop-thread.auto.thread) in
     let next : t - 1 + 1 ≡ t + 1 - 1 = omega (arith, c.loop-thread.auto.thread) in
-    let found = slice_get_read items (length items) t c.index.result.now refl
-    (omega (arith, c.loop-thread-test.true, c.threads-thread-end.ensures.value, c.requires.thread_count)) c.index.ensures in
+    let found = seat-at scene t c.index.result.now (slice_get_read scene.seats.items (length scene.seats.items) t c.index.result.now refl
+    (omega (arith, c.loop-thread-test.true, c.threads-thread-end.ensures.value, c.requires.thread_count, count-seats scene)) c.index.ensures) in
     let test : p t ≡ c.was_cut.result = ap (test_of c.args.cut) found ∙ sym c.was_cut.ensures in
     let more = sym (ap (λ (n : ℕ). filter p (range_with_len 1 n)) next) ∙ filter-range_more p 1 (t - 1) t last in
     elim c.if-was_cut.branch [
@@ -45,3 +47,6 @@ pub returns-clause-known : goal.returns-clause-known
 returns-clause-known c =
     subst (All (IsProgramThread c.args.exercise.now)) (sym (whole (goal.at.returns-clause-known c).After-loop-thread))
     (programs c.args.exercise.now (joint_of c.args.scene.now) (test_of c.args.cut) c.requires)
+
+pub index-requires : goal.index-requires
+index-requires c = omega (arith, c.loop-thread-test.true, c.threads-thread-end.ensures.value, c.requires.thread_count, count-seats c.args.scene.now, c.args.scene.now.seats.ok.0)

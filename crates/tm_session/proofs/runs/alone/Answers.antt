@@ -4,16 +4,25 @@ use Rattle.tm_base.specs.declared.events.Entry.{Entry}
 use Rattle.tm_outside.specs.Appending.{AppendsPrefix}
 use Rattle.tm_replay.specs.Joint.{Joint}
 use Rattle.tm_replay.specs.JointSteps.{IsJointRun}
+use Rattle.tm_book.specs.Books.{BookView}
+use Rattle.tm_text.specs.Exercises.{ExerciseView}
+use Rattle.tm_session.specs.declared.runs.Finished.{Finished}
+use Rattle.tm_session.specs.Shelves.{AreBooksOf}
 use Rattle.tm_session.specs.Scenes.{joint_of}
 use Rattle.tm_session.specs.Turns.{rules_of}
 use Rattle.tm_session.specs.Running.{turn_of}
 use Rattle.tm_session.proofs.Turning.{alone-legal}
+use Rattle.tm_session.proofs.Shelving.{books-left}
 use Rattle.tm_session.proofs.Rowing.{begun-text}
 use Rattle.tm_session.proofs.runs.alone.Goals as goal
 
 on_err : {A E P : Type 0} (r : Result A E) → P → OnErr r P
 on_err (Ok a) p = tt
 on_err (Err e) p = p
+
+if_ok_both : {E : Type 0} {x : ExerciseView} (r : Result Finished E) (es : List Entry) (bs : List BookView) → IfOk r (λ f. f.shown ≡ es) → IfOk r (λ f. f.books ≡ bs) → AreBooksOf x es bs → IfOk r (λ f. AreBooksOf x f.shown f.books)
+if_ok_both (Ok f) es bs shown books p = rw shown (rw books p)
+if_ok_both (Err e) es bs shown books p = tt
 
 pub loop-rules-init : goal.loop-rules-init
 loop-rules-init g c = record {
@@ -49,3 +58,12 @@ returns-clause-refused g c =
     (λ (kept : g.K.Sink.written c.finish.new.sink ≡ g.K.Sink.written c.loop-rules.sink).
     (text.0, text.1, subst (λ (new : Option (List ℕ)). AppendsPrefix (g.K.Sink.written c.args.sink.now) new text.0) (sym kept) text.2))
     c.finish.ensures.kept
+
+pub returns-clause-books : goal.returns-clause-books
+returns-clause-books g c =
+    let x = c.args.exercise.now in
+    let s = c.loop-rules.session in
+    let way = c.loop-rules.invariant.under_way in
+    let legal = alone-legal x (rules_of c.args.schedule c.args.limit) s.shown.items (turn_of s.run) way.formed way.begins in
+    let books = books-left x s.shown.items s.run.scene way.sound legal way.kept in
+    if_ok_both c.finish.result s.shown.items s.run.scene.books.items c.finish.ensures.shown c.finish.ensures.books books

@@ -1,5 +1,5 @@
 use Rattle.std.proofs.Common.{sym}
-use Rattle.tm_session.proofs.Wishes.{IsWithin-call}
+use Rattle.tm_session.proofs.Limits.{IsWithin-call}
 use Rattle.tm_session.proofs.seats.free_wish.Goals as goal
 
 pub returns-in-Call-clause-limit : goal.returns-in-Call-clause-limit

@@ -14,14 +14,14 @@ use Rattle.tm_session.proofs.sessions.Session.make.Goals as goal
 
 pub bars-requires : goal.bars-requires
 bars-requires c =
-    subst (λ (p : Turn). IsSoundJoint c.args.exercise.now p.joint) (sym c.in_ok-run.ensures) (IsSoundJoint-start c.args.exercise.now c.threads-threads.ensures.well_formed)
+    subst (λ (p : Turn). IsSoundJoint c.args.exercise.now p.joint) (sym c.in_ok-run.ensures.start) (IsSoundJoint-start c.args.exercise.now c.threads-threads.ensures.well_formed)
 
 pub returns-clause-under_way : goal.returns-clause-under_way
 returns-clause-under_way c =
     let x = c.args.exercise.now in
     let formed : IsWellFormed x = c.threads-threads.ensures.well_formed in
     let run = c.in_ok-run.run' in
-    let begun : turn_of run ≡ first_turn x c.args.rules = c.in_ok-run.ensures in
+    let begun : turn_of run ≡ first_turn x c.args.rules = c.in_ok-run.ensures.start in
     let j = joint_of run.scene in
     let joint : j ≡ start x = ap (λ (p : Turn). p.joint) begun in
     let none : c.new.result.items ≡ [] = c.new.ensures.items in
@@ -37,12 +37,13 @@ returns-clause-under_way c =
       bounded = omega (arith, len, little);
       bars = c.in_ok-bars.ensures;
       begins = subst (λ (es : List Entry). BeginsAlone x c.args.rules es (turn_of run)) (sym none) begun;
+      kept = rw none c.in_ok-run.ensures.kept;
     }
 
 pub returns-clause-sent : goal.returns-clause-sent
 returns-clause-sent c count bytes =
     let x = c.args.exercise.now in
-    let begun : turn_of c.in_ok-run.run' ≡ first_turn x c.args.rules = c.in_ok-run.ensures in
+    let begun : turn_of c.in_ok-run.run' ≡ first_turn x c.args.rules = c.in_ok-run.ensures.start in
     let none : c.new.result.items ≡ [] = c.new.ensures.items in
     record {
       page = first_page x;

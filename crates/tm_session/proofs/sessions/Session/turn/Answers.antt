@@ -36,30 +36,31 @@ go-requires-clause-running g c =
       early = record { events = length c.args.self.now.shown.items; few = omega (arith, way.bounded); counted = way.counted };
       last = way.last;
       waited = way.waited;
+      kept = record { events = c.args.self.now.shown.items; kept = way.kept };
     }
 
 pub bars-requires : goal.bars-requires
-bars-requires g c = (went c.args.exercise.now c.args.rules c.args.self.now (turn_of c.go.new.self) c.in_ok-entry.entry c.requires.under_way c.in_ok-entry.ensures).1.sound
+bars-requires g c = (went c.args.exercise.now c.args.rules c.args.self.now (turn_of c.go.new.self) c.in_ok-entry.entry c.requires.under_way c.in_ok-entry.ensures.goes).1.sound
 
 pub row-requires-clause-object : goal.row-requires-clause-object
 row-requires-clause-object g c =
     step-object c.args.exercise.now (joint_of c.args.self.now.run.scene) (joint_of c.go.new.self.scene) c.in_ok-entry.entry c.requires.under_way.formed c.requires.under_way.sound
-    (went c.args.exercise.now c.args.rules c.args.self.now (turn_of c.go.new.self) c.in_ok-entry.entry c.requires.under_way c.in_ok-entry.ensures).0
+    (went c.args.exercise.now c.args.rules c.args.self.now (turn_of c.go.new.self) c.in_ok-entry.entry c.requires.under_way c.in_ok-entry.ensures.goes).0
 
 pub row-requires-clause-thread : goal.row-requires-clause-thread
 row-requires-clause-thread g c =
     step-thread c.args.exercise.now (joint_of c.args.self.now.run.scene) (joint_of c.go.new.self.scene) c.in_ok-entry.entry c.requires.under_way.formed c.requires.under_way.sound
-    (went c.args.exercise.now c.args.rules c.args.self.now (turn_of c.go.new.self) c.in_ok-entry.entry c.requires.under_way c.in_ok-entry.ensures).0
+    (went c.args.exercise.now c.args.rules c.args.self.now (turn_of c.go.new.self) c.in_ok-entry.entry c.requires.under_way c.in_ok-entry.ensures.goes).0
 
 pub row-requires-clause-granted : goal.row-requires-clause-granted
 row-requires-clause-granted g c =
     step-names c.args.exercise.now (joint_of c.args.self.now.run.scene) (joint_of c.go.new.self.scene) c.in_ok-entry.entry c.requires.under_way.formed c.requires.under_way.sound
-    (went c.args.exercise.now c.args.rules c.args.self.now (turn_of c.go.new.self) c.in_ok-entry.entry c.requires.under_way c.in_ok-entry.ensures).0
+    (went c.args.exercise.now c.args.rules c.args.self.now (turn_of c.go.new.self) c.in_ok-entry.entry c.requires.under_way c.in_ok-entry.ensures.goes).0
 
 pub row-requires-clause-bars : goal.row-requires-clause-bars
 row-requires-clause-bars g c =
     bars-programs c.args.exercise.now (joint_of c.go.new.self.scene) c.as_slice-2.result.now
-    (went c.args.exercise.now c.args.rules c.args.self.now (turn_of c.go.new.self) c.in_ok-entry.entry c.requires.under_way c.in_ok-entry.ensures).1.sound
+    (went c.args.exercise.now c.args.rules c.args.self.now (turn_of c.go.new.self) c.in_ok-entry.entry c.requires.under_way c.in_ok-entry.ensures.goes).1.sound
     (c.as_slice-2.ensures.value ∙ c.in_ok-self.ensures)
 
 pub returns-clause-under_way : goal.returns-clause-under_way
@@ -69,8 +70,8 @@ returns-clause-under_way g c =
     let old = c.args.self.now in
     let next = turn_of c.go.new.self in
     let e = c.in_ok-entry.entry in
-    let now = (went x c.args.rules old next e way c.in_ok-entry.ensures).1 in
-    let counts = turn-counts x c.args.rules (length old.shown.items) (turn_of old.run) next e way.formed (sound_turn x c.args.rules old way) way.counted c.in_ok-entry.ensures in
+    let now = (went x c.args.rules old next e way c.in_ok-entry.ensures.goes).1 in
+    let counts = turn-counts x c.args.rules (length old.shown.items) (turn_of old.run) next e way.formed (sound_turn x c.args.rules old way) way.counted c.in_ok-entry.ensures.goes in
     let len : length c.push.new.self.items ≡ length old.shown.items + 1 = ap length c.in_ok-push.ensures.items ∙ length-append old.shown.items (e ∷ []) in
     record {
       formed = way.formed;
@@ -81,7 +82,8 @@ returns-clause-under_way g c =
       bounded = omega (arith, len, counts.1, way.bounded);
       bars = c.in_ok-self.ensures;
       begins = subst (λ (es : List Entry). BeginsAlone x c.args.rules es next) (sym c.in_ok-push.ensures.items)
-          (Leads-snoc (Goes x c.args.rules) old.shown.items e (first_turn x c.args.rules) (turn_of old.run) next way.begins c.in_ok-entry.ensures);
+          (Leads-snoc (Goes x c.args.rules) old.shown.items e (first_turn x c.args.rules) (turn_of old.run) next way.begins c.in_ok-entry.ensures.goes);
+      kept = rw c.in_ok-push.ensures.items (c.in_ok-entry.ensures.keeps old.shown.items way.kept);
     }
 
 pub returns-clause-falls : goal.returns-clause-falls
@@ -89,7 +91,7 @@ returns-clause-falls g c =
     let way = c.requires.under_way in
     let old = c.args.self.now in
     let counts = turn-counts c.args.exercise.now c.args.rules (length old.shown.items) (turn_of old.run) (turn_of c.go.new.self) c.in_ok-entry.entry way.formed
-    (sound_turn c.args.exercise.now c.args.rules old way) way.counted c.in_ok-entry.ensures in
+    (sound_turn c.args.exercise.now c.args.rules old way) way.counted c.in_ok-entry.ensures.goes in
     omega (arith, counts.1)
 
 pub returns-clause-sent : goal.returns-clause-sent
@@ -99,7 +101,7 @@ returns-clause-sent g c before was h =
     let old = c.args.self.now in
     let next = turn_of c.go.new.self in
     let e = c.in_ok-entry.entry in
-    let step = (went x c.args.rules old next e way c.in_ok-entry.ensures).0 in
+    let step = (went x c.args.rules old next e way c.in_ok-entry.ensures.goes).0 in
     let step' : JointStep x h.page.joint e next.joint = subst (λ (j : Joint). JointStep x j e next.joint) (sym h.same) step in
     let len : length c.push.new.self.items ≡ length old.shown.items + 1 = ap length c.in_ok-push.ensures.items ∙ length-append old.shown.items (e ∷ []) in
     let count : c.len-count.result ≡ h.page.count + 1 = omega (arith, c.len-count.ensures, len, h.count) in

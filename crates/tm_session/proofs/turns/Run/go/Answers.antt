@@ -6,9 +6,9 @@ use Rattle.tm_replay.specs.Sound.{IsSoundJoint}
 use Rattle.tm_replay.specs.Bars.{is_stuck, has_waiter}
 use Rattle.tm_session.specs.Scenes.{joint_of, IsEarly}
 use Rattle.tm_session.specs.Turns.{Goes, GoesBy}
-use Rattle.tm_session.specs.Running.{turn_of, AreWaited, MovesOn}
+use Rattle.tm_session.specs.Running.{turn_of, AreWaited, MovesOn, Stops}
 use Rattle.tm_session.proofs.Stopping.{due-waited, none-due}
-use Rattle.tm_session.proofs.Turning.{moves}
+use Rattle.tm_session.proofs.Turning.{moves, halts}
 use Rattle.tm_session.proofs.turns.Run.go.Goals as goal
 
 pub halt-requires : goal.halt-requires
@@ -24,6 +24,7 @@ halt-requires c =
       sound = subst (IsSoundJoint x) (sym same) c.requires.running.sound;
       early = subst IsEarly (sym same) c.requires.running.early;
       waited = subst (λ (j : Joint). has_waiter (slice_get j.objects c.in-Some.object) ≡ true) (sym same) waited.0;
+      kept = rw c.in_ok-object.ensures.scene c.requires.running.kept;
     }
 
 pub move_on-requires-clause-free : goal.move_on-requires-clause-free
@@ -32,8 +33,8 @@ move_on-requires-clause-free c =
     let due = rw c.in-None.is at c.in_ok-object.ensures.due in
     ap is_stuck c.requires.bars ∙ (none-due c.args.exercise.now old c.args.self.now.stops.items c.requires.running.sound due.0).0
 
-pub returns-in-None : goal.returns-in-None
-returns-in-None c =
+pub returns-in-None-clause-goes : goal.returns-in-None-clause-goes
+returns-in-None-clause-goes c =
     let x = c.args.exercise.now in
     let old = joint_of c.args.self.now.scene in
     let due = rw c.in-None.is at c.in_ok-object.ensures.due in
@@ -42,4 +43,21 @@ returns-in-None c =
     IfOk-weaker c.move_on.result P Q
     (λ e m. subst (λ (stops : List ℕ). GoesBy x c.args.rules (turn_of c.args.self.now) stops e (turn_of c.move_on.new.self)) (sym due.0)
     (moves x c.args.rules (turn_of c.args.self.now) c.due.new.self c.move_on.new.self e (ap joint_of c.in_ok-object.ensures.scene) c.in_ok-object.ensures.last c.in_ok-object.ensures.draw due.1 m))
-    c.move_on.ensures
+    c.move_on.ensures.moves
+
+pub returns-in-None-clause-keeps : goal.returns-in-None-clause-keeps
+returns-in-None-clause-keeps c es kept = c.move_on.ensures.keeps es (rw c.in_ok-object.ensures.scene kept)
+
+pub returns-in-Some-clause-keeps : goal.returns-in-Some-clause-keeps
+returns-in-Some-clause-keeps c es kept = c.halt.ensures.keeps es (rw c.in_ok-object.ensures.scene kept)
+
+pub returns-in-Some-clause-goes : goal.returns-in-Some-clause-goes
+returns-in-Some-clause-goes c =
+    let x = c.args.exercise.now in
+    let due = rw c.in-Some.is at c.in_ok-object.ensures.due in
+    let P : Entry → Type 0 = λ e. Stops x c.due.new.self c.in-Some.object e c.halt.new.self in
+    let Q : Entry → Type 0 = λ e. Goes x c.args.rules (turn_of c.args.self.now) e (turn_of c.halt.new.self) in
+    IfOk-weaker c.halt.result P Q
+    (λ e s. subst (λ (stops : List ℕ). GoesBy x c.args.rules (turn_of c.args.self.now) stops e (turn_of c.halt.new.self)) (sym due)
+    (halts x (turn_of c.args.self.now) c.due.new.self c.halt.new.self c.in-Some.object e (ap joint_of c.in_ok-object.ensures.scene) c.in_ok-object.ensures.last c.in_ok-object.ensures.draw s))
+    c.halt.ensures.stops
