@@ -1,3 +1,5 @@
-pub mod One
+pub mod Spelling
+pub mod Setting
+pub mod Reading
 pub mod Judged
 pub mod Told

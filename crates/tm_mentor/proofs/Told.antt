@@ -1,5 +1,5 @@
 -- What an outcome tells, by what happened.
-use Rattle.std.proofs.Common.{ℕ, Bool, true, false, List, [], ◌∷◌, Option, Some, None, lit<, refl, String, ◌≡◌, ◌↔◌, ap, arith}
+use Rattle.std.proofs.Common.{ℕ, Bool, true, false, List, [], ◌∷◌, Option, Some, None, lit<, refl, String, ◌≡◌, ◌↔◌, ap, arith, inl, inr}
 use Rattle.std.specs.List.{Contains}
 use Rattle.std.specs.Option.{IfSome, IsSomeAnd}
 use Rattle.std.specs.declared.alloc.Global.{Global}
@@ -12,11 +12,12 @@ use Rattle.tm_mentor.specs.declared.refusals.Refusal.{Refusal}
 use Rattle.tm_mentor.specs.declared.refusals.Refusal.TheVariants.{Usage, Text, ReadFault}
 use Rattle.tm_mentor.specs.declared.answers.Answer.{Answer}
 use Rattle.tm_mentor.specs.declared.answers.Answer.TheVariants.{Refused, Ran, NoMemory}
-use Rattle.tm_mentor.specs.Words.{SpellsRun}
+use Rattle.tm_mentor.specs.Words.{SpellsNoRun, SpellsRun}
+use Rattle.tm_session.specs.declared.rules.Rules.{Rules}
 use Rattle.tm_mentor.specs.Refusals.{status_of}
 use Rattle.tm_mentor.specs.Outside.{Input, Output}
 use Rattle.tm_mentor.specs.Found.{IsNoExercise}
-use Rattle.tm_mentor.specs.Answers.{Answers, Sends, outcome_of, statuses, end_status, unless_failed, IsWritten}
+use Rattle.tm_mentor.specs.Answers.{Answers, Forgoes, Sends, outcome_of, statuses, end_status, unless_failed, IsWritten}
 
 -- every status is one of these
 refused_status_by : (refusal : Refusal) (failed : Bool) → Contains statuses (unless_failed failed (status_of refusal))
@@ -53,12 +54,60 @@ written_status_by sent sent' bytes false Stuck w steady = (1, lit< tt, refl)
 written_status_by sent sent' bytes false Budget w steady = (2, lit< tt, refl)
 
 -- an exercise runs where nothing fails
-pub complete_by : (words : List (String Global)) (read read' : Input) (sent sent' : Output) (x : ExerciseView) (a : Answer) → Answers words read read' sent sent' a → SpellsRun words → IsSomeAnd read.left (λ bytes. IsExercise bytes x) → ¬ Rose read.faults read'.faults → ¬ Rose sent.faults sent'.faults → Contains (0 ∷ 6 ∷ 7 ∷ 9 ∷ []) (outcome_of a).status
-complete_by words read read' sent sent' x (Refused Usage failed) w spelled told no_read no_write = absurd (w.cause.unspelled spelled)
-complete_by words read read' sent sent' x (Refused Text failed) w spelled told no_read no_write = absurd (no_exercise_told read.left x w.cause.none told)
-complete_by words read read' sent sent' x (Refused ReadFault failed) w spelled told no_read no_write = absurd (no_read w.cause.rose)
-complete_by words read read' sent sent' x (Ran f) w spelled told no_read no_write = written_status_by sent sent' w.bytes f.write_fault f.end w.whole no_write
-complete_by words read read' sent sent' x NoMemory w spelled told no_read no_write = (3, lit< tt, refl)
+pub complete_by : (words : List (String Global)) (read read' : Input) (sent sent' : Output) (x : ExerciseView) (rules : Rules) (a : Answer) → Answers words read read' sent sent' a → SpellsRun words rules → IsSomeAnd read.left (λ bytes. IsExercise bytes x) → ¬ Rose read.faults read'.faults → ¬ Rose sent.faults sent'.faults → Contains (0 ∷ 6 ∷ 7 ∷ 9 ∷ []) (outcome_of a).status
+complete_by words read read' sent sent' x rules (Refused Usage failed) w spelled told no_read no_write = absurd (w.cause.unspelled rules spelled)
+complete_by words read read' sent sent' x rules (Refused Text failed) w spelled told no_read no_write = absurd (no_exercise_told read.left x w.cause.none told)
+complete_by words read read' sent sent' x rules (Refused ReadFault failed) w spelled told no_read no_write = absurd (no_read w.cause.rose)
+complete_by words read read' sent sent' x rules (Ran f) w spelled told no_read no_write = written_status_by sent sent' w.bytes f.write_fault f.end w.whole no_write
+complete_by words read read' sent sent' x rules NoMemory w spelled told no_read no_write = (3, lit< tt, refl)
+
+-- the status 2 is that of words that spell no run
+run_is_no_usage : (failed : Bool) (end : End) → unless_failed failed (end_status end) ≡ 2 → ⊥
+run_is_no_usage false Done same = omega arith
+run_is_no_usage false Stuck same = omega arith
+run_is_no_usage false Budget same = omega arith
+run_is_no_usage true Done same = omega arith
+run_is_no_usage true Stuck same = omega arith
+run_is_no_usage true Budget same = omega arith
+
+pub usage_by : (words : List (String Global)) (read read' : Input) (sent sent' : Output) (a : Answer) → Answers words read read' sent sent' a → (outcome_of a).status ≡ 2 → SpellsNoRun words
+usage_by words read read' sent sent' (Refused Usage failed) w same = w.cause.unspelled
+usage_by words read read' sent sent' (Refused Text false) w same = absurd (omega arith)
+usage_by words read read' sent sent' (Refused Text true) w same = absurd (omega arith)
+usage_by words read read' sent sent' (Refused ReadFault false) w same = absurd (omega arith)
+usage_by words read read' sent sent' (Refused ReadFault true) w same = absurd (omega arith)
+usage_by words read read' sent sent' (Ran f) w same = absurd (run_is_no_usage f.write_fault f.end same)
+usage_by words read read' sent sent' NoMemory w same = absurd (omega arith)
+
+-- where memory was wanting the words spell a run
+forgone_spells : (words : List (String Global)) (read read' : Input) (sent sent' : Output) → Forgoes words read read' sent sent' → (rules : Rules) × SpellsRun words rules
+forgone_spells words read read' sent sent' (inl short) = (short.unknown.rules, short.unknown.spelled)
+forgone_spells words read read' sent sent' (inr short) = (short.rules, short.found.spelled)
+
+-- words that spell no run are refused
+pub unspelled_by : (words : List (String Global)) (read read' : Input) (sent sent' : Output) (a : Answer) → Answers words read read' sent sent' a → SpellsNoRun words → Contains (2 ∷ 5 ∷ []) (outcome_of a).status
+unspelled_by words read read' sent sent' (Refused Usage false) w none = (0, lit< tt, refl)
+unspelled_by words read read' sent sent' (Refused Usage true) w none = (1, lit< tt, refl)
+unspelled_by words read read' sent sent' (Refused Text failed) w none = absurd (none w.cause.rules w.cause.spelled)
+unspelled_by words read read' sent sent' (Refused ReadFault failed) w none = absurd (none w.cause.rules w.cause.spelled)
+unspelled_by words read read' sent sent' (Ran f) w none = absurd (none w.rules w.found.spelled)
+unspelled_by words read read' sent sent' NoMemory w none =
+    let spells = forgone_spells words read read' sent sent' w in
+    absurd (none spells.0 spells.1)
+
+-- a text of no exercise isn't run
+not_run : (left : Option (List ℕ)) (x : ExerciseView) → IsSomeAnd left IsNoExercise → IfSome left (λ bytes. IsExercise bytes x) → ⊥
+not_run None x none told = none
+not_run (Some bytes) x none told = none x told
+
+pub no_exercise_by : (words : List (String Global)) (read read' : Input) (sent sent' : Output) (rules : Rules) (a : Answer) → Answers words read read' sent sent' a → SpellsRun words rules → IsSomeAnd read.left IsNoExercise → Contains (3 ∷ 4 ∷ 5 ∷ 9 ∷ []) (outcome_of a).status
+no_exercise_by words read read' sent sent' rules (Refused Usage failed) w spelled none = absurd (w.cause.unspelled rules spelled)
+no_exercise_by words read read' sent sent' rules (Refused Text false) w spelled none = (0, lit< tt, refl)
+no_exercise_by words read read' sent sent' rules (Refused Text true) w spelled none = (2, lit< tt, refl)
+no_exercise_by words read read' sent sent' rules (Refused ReadFault false) w spelled none = (1, lit< tt, refl)
+no_exercise_by words read read' sent sent' rules (Refused ReadFault true) w spelled none = (2, lit< tt, refl)
+no_exercise_by words read read' sent sent' rules (Ran f) w spelled none = absurd (not_run read.left w.exercise none w.found.told)
+no_exercise_by words read read' sent sent' rules NoMemory w spelled none = (3, lit< tt, refl)
 
 -- a refusal has no status of a run
 refused_is_no_end : (refusal : Refusal) (failed : Bool) (end : End) → unless_failed failed (status_of refusal) ≡ end_status end → ⊥

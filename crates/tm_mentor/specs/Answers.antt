@@ -7,6 +7,7 @@ use Rattle.tm_outside.specs.Appending.{AppendsPrefix}
 use Rattle.tm_text.specs.Exercises.{ExerciseView}
 use Rattle.tm_replay.specs.Joint.{Joint}
 use Rattle.tm_replay.specs.JointSteps.{IsJointRun}
+use Rattle.tm_session.specs.declared.rules.Rules.{Rules}
 use Rattle.tm_session.specs.declared.runs.Finished.{Finished}
 use Rattle.tm_session.specs.Pages.{IsAloneText, BeginsAloneText}
 use Rattle.tm_session.specs.Sending.{IsSent}
@@ -49,23 +50,26 @@ pub record IsRefused (words : List (String Global)) (read read' : Input) (sent s
   pub cause : IsCause refusal words read read'
   pub line : Sends failed sent sent' (line_of refusal)
 
--- The exercise that was found ran to its end: its events are those of its alone run, with at most 1,000
--- calls a thread, and a legal run of all objects together. The text of that run was sent.
+-- The exercise that was found ran to its end: its events are those of its alone run under the rules
+-- that the words spell, and a legal run of all objects together. The text of that run was sent.
 pub record Runs (words : List (String Global)) (read read' : Input) (sent sent' : Output) (f : Finished) : Type 0 where
+  pub rules : Rules
   pub exercise : ExerciseView
-  pub found : IsFound words read read' exercise
+  pub found : IsFound words rules read read' exercise
   pub joint : Joint
   pub legal : IsJointRun exercise f.shown joint
   pub bytes : List ℕ
-  pub text : IsAloneText exercise 1000 f.shown f.end f.cut bytes
+  pub text : IsAloneText exercise rules f.shown f.end f.cut bytes
   pub whole : Sends f.write_fault sent sent' bytes
 
--- Memory was wanting in the run of the exercise that was found. A front of its first rows was written.
+-- Memory was wanting in the run of the exercise that was found. A front of its first rows was
+-- written.
 pub record RunsShort (words : List (String Global)) (read read' : Input) (sent sent' : Output) : Type 0 where
+  pub rules : Rules
   pub exercise : ExerciseView
-  pub found : IsFound words read read' exercise
+  pub found : IsFound words rules read read' exercise
   pub bytes : List ℕ
-  pub begins : BeginsAloneText exercise 1000 bytes
+  pub begins : BeginsAloneText exercise rules bytes
   pub written : AppendsPrefix sent.written sent'.written bytes
 
 -- Memory was wanting before anything was written.

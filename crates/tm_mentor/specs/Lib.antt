@@ -1,4 +1,5 @@
 pub mod Words
+pub mod Choosing
 pub mod Refusals
 pub mod Outside
 pub mod Found

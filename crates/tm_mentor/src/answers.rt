@@ -1,10 +1,10 @@
 ghost use Rattle.std.specs.Prelude.{◌≡◌, ◌≤◌};
-ghost use Rattle.tm_mentor.specs.Words.{SpellsRun};
+ghost use Rattle.tm_mentor.specs.Words.{SpellsNoRun};
 ghost use Rattle.tm_mentor.specs.Refusals.{line_of};
 ghost use Rattle.tm_mentor.specs.Outside.{input_of, output_of};
 ghost use Rattle.tm_mentor.specs.Answers.{Answers, Sends};
 
-use crate::exercises::{Lack, exercise_to_run};
+use crate::commands::{Command, Lack, read_command};
 use crate::refusals::{Refusal, line};
 use std::alloc::Global;
 use tm_outside::{Sink, Source, write_all};
@@ -32,15 +32,17 @@ pub(crate) fn carry_out<S: Source, K: Sink>(
         (input_of S.left S.fault_count source.old) (input_of S.left S.fault_count source.new)
         (output_of K.written K.fault_count sink.old) (output_of K.written K.fault_count sink.new)
         result }
-    ensures unread { ¬ SpellsRun words.now → source.new ≡ source.old }
+    ensures unread { SpellsNoRun words.now → source.new ≡ source.old }
     ensures source_never_falls { S.fault_count source.old ≤ S.fault_count source.new }
     ensures sink_never_falls { K.fault_count sink.old ≤ K.fault_count sink.new }
 {
-    match exercise_to_run(alloc, words, source) {
-        Ok(exercise) => match alone(alloc, &exercise, sink) {
-            Ok(finished) => Answer::Ran(finished),
-            Err(_) => Answer::NoMemory,
-        },
+    match read_command(alloc, words, source) {
+        Ok(Command { exercise, rules }) => {
+            match alone(alloc, &exercise, rules.schedule, rules.limit, sink) {
+                Ok(finished) => Answer::Ran(finished),
+                Err(_) => Answer::NoMemory,
+            }
+        }
         Err(Lack::Refused(refusal)) => Answer::Refused {
             refusal,
             write_fault: fails_at_line(refusal, sink),

@@ -9,9 +9,9 @@ use tm_session::Finished;
 /// What a command answers: its status, and the run where one ended.
 #[derive(Debug, Drop)]
 pub struct Outcome {
-    /// 0, 6 or 7: a run ended by itself, stuck or at its limit of calls, and its text was written. 2: the
-    /// words spell no command. 3: what was read is the text of no exercise. 4: the source failed. 5: the
-    /// sink failed. 9: memory was wanting.
+    /// 0, 6 or 7: a run ended by itself, stuck or with a thread cut at its limit of calls, and its
+    /// text was written. 2: the words spell no run. 3: what was read is the text of no exercise. 4:
+    /// the source failed. 5: the sink failed. 9: memory was wanting.
     pub status: u8,
     /// The run that ended, whether its text was written or the sink failed.
     pub finished: Option<Finished>,

@@ -4,7 +4,7 @@ ghost use Rattle.tm_mentor.specs.Refusals.{line_of, status_of};
 /// Why a command runs nothing.
 #[derive(Clone, Copy, Debug, PartialEq, Eq)]
 pub enum Refusal {
-    /// The words spell no command.
+    /// The words spell no run.
     Usage,
     /// What was read is the text of no exercise.
     Text,

@@ -50,8 +50,28 @@ const CROSSED_ROWS: &str = "1 1 A.1 A.1 begin ok [R-]
 stuck 12 A B
 ";
 
-/// Runs the command of these words, which spaces part, over memory where these reads and writes fail.
-/// Gives back the outcome and what was written.
+/// Three threads that do nothing.
+const IDLE: &str = "thread A\nend\nthread B\nend\nthread C\nend\n";
+
+/// The rows of that run under schedule 1.
+const IDLE_ROWS: &str = "1 1 C.1 C.1 begin ok [--R]
+2 1 A.1 A.1 begin ok [R-R]
+3 2 A.2 A.2 end ok [E-R]
+4 1 B.1 B.1 begin ok [ERR]
+5 2 B.2 B.2 end ok [EER]
+6 2 C.2 C.2 end ok [EEE]
+done 6
+";
+
+/// The rows of the thread that takes one mutex twice, where it may make one call.
+const CUT_ROWS: &str = "1 1 A.1 A.1 begin ok [R]
+2 2 A.2 m.1 lock ok [R]
+3 3 A.3 A.2 end cut [E]
+budget 3 A
+";
+
+/// Runs the command of these words, which spaces part, over memory where these reads and writes
+/// fail. Gives back the outcome and what was written.
 fn command(
     alloc: Global,
     words: &str,
@@ -87,13 +107,107 @@ fn exercises_run_to_their_end(rt: HostRuntime) -> Result<(), Fail> {
 }
 
 #[test]
+fn runs_keep_to_their_options(rt: HostRuntime) -> Result<(), Fail> {
+    let table = [
+        ("run --schedule 1", IDLE, IDLE_ROWS, 0u8),
+        ("run --schedule 7", TWICE, TWICE_ROWS, 0),
+        ("run --events 1", TWICE, CUT_ROWS, 7),
+        ("run --events=1 --schedule=1", TWICE, CUT_ROWS, 7),
+        ("run --events 4 --schedule 0", PAIR, PAIR_ROWS, 0),
+    ];
+    for (words, text, rows, status) in table {
+        let (outcome, sink) = command(rt.alloc(), words, text, &[], &[])?;
+        assert_eq!(rt; sink.bytes(), rows.as_bytes());
+        assert_eq!(rt; outcome.status, status, "for {words:?}");
+        assert!(rt; outcome.finished.is_some());
+    }
+    Ok(())
+}
+
+/// Words that spell a run, and the thread that it begins with.
+const TAKEN: [(&str, &str); 10] = [
+    ("run", "1 1 A.1 A.1 begin ok [R--]"),
+    ("run --schedule 0", "1 1 A.1 A.1 begin ok [R--]"),
+    ("run --schedule 1", "1 1 C.1 C.1 begin ok [--R]"),
+    ("run --schedule=1", "1 1 C.1 C.1 begin ok [--R]"),
+    ("run --schedule 0001", "1 1 C.1 C.1 begin ok [--R]"),
+    ("run --events=1", "1 1 A.1 A.1 begin ok [R--]"),
+    ("run --events 010000", "1 1 A.1 A.1 begin ok [R--]"),
+    (
+        "run --schedule=1 --events=1000",
+        "1 1 C.1 C.1 begin ok [--R]",
+    ),
+    ("run --events 2 --schedule 1", "1 1 C.1 C.1 begin ok [--R]"),
+    ("run --events=2 --schedule 1", "1 1 C.1 C.1 begin ok [--R]"),
+];
+
+#[test]
+fn words_that_spell_a_run_are_taken(rt: HostRuntime) -> Result<(), Fail> {
+    for (words, row) in TAKEN {
+        let (outcome, sink) = command(rt.alloc(), words, IDLE, &[], &[])?;
+        assert_eq!(rt; outcome.status, 0, "for {words:?}");
+        assert!(rt; sink.bytes().starts_with(row.as_bytes()), "for {words:?}");
+    }
+    let most = "run --schedule=18446744073709551615";
+    let (outcome, _) = command(rt.alloc(), most, IDLE, &[], &[])?;
+    assert_eq!(rt; outcome.status, 0);
+    Ok(())
+}
+
+/// Words that spell no run.
+const REFUSED: [&str; 25] = [
+    "",
+    "help",
+    "run run",
+    "--schedule 1 run",
+    "--schedule=1",
+    "run --threads 1",
+    "run --",
+    "run -h",
+    "run --schedule",
+    "run --schedule=",
+    "run --schedule -1",
+    "run --schedule +1",
+    "run --schedule=+1",
+    "run --schedule 0x1",
+    "run --schedule 18446744073709551616",
+    "run --schedule 1 --schedule 1",
+    "run --schedule=1 --schedule 2",
+    "run --schedule 1 2",
+    "run --schedule --events 1",
+    "run --events",
+    "run --events 0",
+    "run --events 10001",
+    "run --events=4294967297",
+    "run --events 1 --schedule 2 --events=1",
+    "run --Schedule 1",
+];
+
+#[test]
 fn other_words_are_refused(rt: HostRuntime) -> Result<(), Fail> {
-    for words in ["", "help", "run run"] {
+    for words in REFUSED {
         let (outcome, sink) = command(rt.alloc(), words, PAIR, &[], &[])?;
-        assert_eq!(rt; sink.bytes(), b"mentor: usage\n".as_slice());
-        assert_eq!(rt; outcome.status, 2);
+        assert_eq!(rt;
+            sink.bytes(),
+            b"mentor: usage\n".as_slice(),
+            "for {words:?}"
+        );
+        assert_eq!(rt; outcome.status, 2, "for {words:?}");
         assert!(rt; outcome.finished.is_none());
     }
+    Ok(())
+}
+
+#[test]
+fn a_blank_is_no_digit(rt: HostRuntime) -> Result<(), Fail> {
+    let mut words = Vec::new(rt.alloc());
+    for word in ["run", "--schedule", " 3"] {
+        words.push(String::from_str(rt.alloc(), word)?)?;
+    }
+    let mut source = MemorySource::make(rt.alloc(), IDLE.as_bytes(), &[])?;
+    let mut sink = MemorySink::make(rt.alloc(), 4096, &[])?;
+    let outcome = mentor_alone(rt.alloc(), words.as_slice(), &mut source, &mut sink);
+    assert_eq!(rt; outcome.status, 2);
     Ok(())
 }
 

@@ -2,10 +2,11 @@ ghost use Rattle.std.specs.Prelude.{◌≡◌, ◌↔◌, ℕ, ◌<◌, ◌≤�
 ghost use Rattle.tm_base.specs.declared.outcomes.End.{End};
 ghost use Rattle.tm_outside.specs.Faults.{Rose};
 ghost use Rattle.tm_outside.specs.Appending.{Appends};
+ghost use Rattle.tm_session.specs.declared.rules.Rules.{Rules};
 ghost use Rattle.tm_text.specs.Exercises.{ExerciseView};
 ghost use Rattle.tm_text.specs.Grammar.{IsExercise};
 ghost use Rattle.tm_mentor.specs.declared.refusals.Refusal.{Refusal};
-ghost use Rattle.tm_mentor.specs.Words.{SpellsRun};
+ghost use Rattle.tm_mentor.specs.Words.{SpellsNoRun, SpellsRun};
 ghost use Rattle.tm_mentor.specs.Refusals.{line_of, status_of};
 ghost use Rattle.tm_mentor.specs.Outside.{input_of, output_of};
 ghost use Rattle.tm_mentor.specs.Found.{IsNoExercise};
@@ -16,10 +17,12 @@ use crate::outcomes::Outcome;
 use std::alloc::Global;
 use tm_outside::{Sink, Source};
 
-/// Does what the words say, which are those after the program's name. The one word `run` reads an
-/// exercise of at most 2^20 bytes to its end, and writes the rows of its alone run and the last line.
-/// Where nothing is run it writes a line that says why, unless memory is wanting: `mentor: usage`,
-/// `mentor: text` or `mentor: read fault`.
+/// Does what the words say, which are those after the program's name. `run` reads an exercise of at
+/// most 2^20 bytes to its end, and writes the rows of its alone run and the last line. Two options
+/// may follow it, each at most once: `--schedule` with a number below 2^64, else 0, and `--events`
+/// with the number of calls that a thread may make, from 1 to 10,000, else 1,000. Where nothing is
+/// run it writes a line that says why, unless memory is wanting: `mentor: usage`, `mentor: text` or
+/// `mentor: read fault`.
 pub fn mentor_alone<S: Source, K: Sink>(
     alloc: Global,
     words: &[String],
@@ -41,14 +44,16 @@ pub fn mentor_alone<S: Source, K: Sink>(
         (λ f. result.status ≡ run_status f) }
     ensures written { (end : End) → (result.status ≡ end_status end) ↔ IsSomeAnd result.finished (IsWritten end) }
 
-    // Words that spell no command: nothing is read.
-    ensures usage { result.status ≡ 2 → ¬ SpellsRun words.now }
-    ensures unspelled { ¬ SpellsRun words.now → Contains (2 ∷ 5 ∷ []) result.status }
-    ensures unread { ¬ SpellsRun words.now → source.new ≡ source.old }
+    // Words that spell no run: nothing is read.
+    ensures usage { result.status ≡ 2 → SpellsNoRun words.now }
+    ensures unspelled { SpellsNoRun words.now → Contains (2 ∷ 5 ∷ []) result.status }
+    ensures unread { SpellsNoRun words.now → source.new ≡ source.old }
 
     // All that the source had left, where it tells that, is the text of no exercise.
-    ensures text { result.status ≡ 3 → SpellsRun words.now × IfSome (S.left source.old) IsNoExercise }
-    ensures no_exercise { SpellsRun words.now → IsSomeAnd (S.left source.old) IsNoExercise
+    ensures text { result.status ≡ 3
+        → ((rules : Rules) × SpellsRun words.now rules) × IfSome (S.left source.old) IsNoExercise }
+    ensures no_exercise { (rules : Rules) → SpellsRun words.now rules
+        → IsSomeAnd (S.left source.old) IsNoExercise
         → Contains (3 ∷ 4 ∷ 5 ∷ 9 ∷ []) result.status }
 
     // Faults show, and only faults do.
@@ -62,7 +67,7 @@ pub fn mentor_alone<S: Source, K: Sink>(
     // A status 2, 3 or 4 comes with its line, and an exercise without a fault runs.
     ensures line { (refusal : Refusal) → result.status ≡ status_of refusal
         → Appends (K.written sink.old) (K.written sink.new) (line_of refusal) }
-    ensures complete { (x : ExerciseView) → SpellsRun words.now
+    ensures complete { (x : ExerciseView) (rules : Rules) → SpellsRun words.now rules
         → IsSomeAnd (S.left source.old) (λ bytes. IsExercise bytes x)
         → ¬ Rose (S.fault_count source.old) (S.fault_count source.new)
         → ¬ Rose (K.fault_count sink.old) (K.fault_count sink.new)

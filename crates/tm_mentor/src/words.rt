@@ -1,12 +1,68 @@
-ghost use Rattle.std.specs.Prelude.{◌↔◌, IsTrue};
-ghost use Rattle.tm_mentor.specs.Words.{SpellsRun};
+ghost use Rattle.std.specs.Prelude.{◌≡◌, ◌∷◌, [], List, ℕ, map, string_bytes, MatchOption};
+ghost use Rattle.tm_session.specs.declared.rules.Rules.{Rules};
+ghost use Rattle.tm_mentor.specs.declared.settings.Setting.{Setting};
+ghost use Rattle.tm_mentor.specs.declared.settings.Chosen.{Chosen};
+ghost use Rattle.tm_mentor.specs.Words.{Begins, Spells, SpellsNoRun, SpellsRun, WordsSpellOneRun};
+ghost use Rattle.tm_mentor.specs.Choosing.{Chooses};
 
-/// Whether the words spell a command: they are the one word `run`.
-pub(crate) fn spell_run(words: &[String]) -> bool
-    ensures { IsTrue result ↔ SpellsRun words.now }
+use crate::settings::{Chosen, Setting, setting_of};
+use tm_session::Rules;
+
+/// The rules of the run that the words spell, if they spell one: `run`, and then options, each at
+/// most once, in any order.
+pub(crate) fn spell_run(words: &[String]) -> Option<Rules>
+    ensures { MatchOption result (SpellsNoRun words.now) (λ rules. SpellsRun words.now rules) }
 {
-    match words {
-        [word] => word.as_str() == "run",
-        _ => false,
+    let (first, rest) = words.split_first()?;
+    if first.as_str() != "run" {
+        return None;
     }
+    let nothing = Chosen {
+        schedule: None,
+        events: None,
+    };
+    let chosen = choices(rest, nothing)?;
+    Some(chosen.rules())
 }
+
+/// What is chosen after all the words, which are the spellings of settings. `None` where they
+/// aren't, or set something again.
+fn choices(words: &[String], before: Chosen) -> Option<Chosen>
+    ensures { MatchOption result ((after : Chosen) → ¬ Chooses (map string_bytes words.now) before after)
+        (λ after. Chooses (map string_bytes words.now) before after) }
+{
+    if words.is_empty() {
+        return Some(before);
+    }
+    let (setting, rest) = first_setting(words)?;
+    choices(rest, before.with(setting)?)
+}
+
+/// The setting whose spelling the words begin with, and the words after it.
+fn first_setting(words: &[String]) -> Option<(Setting, &[String])>
+    ensures { MatchOption result
+        ((s : Setting) (back : List (List ℕ)) → ¬ Begins (map string_bytes words.now) s back)
+        (λ found. Begins (map string_bytes words.now) found.0 (map string_bytes found.1.now)) }
+{
+    let (first, rest) = words.split_first()?;
+    if let Some(setting) = joined_setting(first.as_str()) {
+        return Some((setting, rest));
+    }
+    let (second, rest) = rest.split_first()?;
+    let setting = setting_of(first.as_str(), second.as_str())?;
+    Some((setting, rest))
+}
+
+/// The setting that one word spells, with `=` between the option and its value, if it spells one.
+fn joined_setting(word: &str) -> Option<Setting>
+    ensures { MatchOption result ((s : Setting) → ¬ Spells (word.now ∷ []) s)
+        (λ s. Spells (word.now ∷ []) s) }
+{
+    let (option, number) = word.split_once('=')?;
+    setting_of(option, number)
+}
+
+/// Words spell one run at most.
+pub fn words_spell_one_run()
+    ensures { WordsSpellOneRun }
+{}

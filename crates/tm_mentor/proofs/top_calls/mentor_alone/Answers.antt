@@ -2,8 +2,9 @@ use Rattle.std.proofs.Common.{[], ◌∷◌, sym, subst, ◌≡◌, ◌↔◌}
 use Rattle.std.specs.List.{Contains}
 use Rattle.std.specs.Option.{IsSomeAnd}
 use Rattle.tm_mentor.specs.declared.outcomes.Outcome.{Outcome}
+use Rattle.tm_mentor.specs.Words.{SpellsNoRun}
 use Rattle.tm_mentor.specs.Answers.{statuses, end_status, IsWritten}
-use Rattle.tm_mentor.proofs.Told.{status_by, complete_by, written_by}
+use Rattle.tm_mentor.proofs.Told.{status_by, usage_by, unspelled_by, no_exercise_by, complete_by, written_by}
 use Rattle.tm_mentor.proofs.top_calls.mentor_alone.Goals as goal
 
 pub returns-clause-statuses : goal.returns-clause-statuses
@@ -14,11 +15,28 @@ returns-clause-statuses g c =
 pub returns-clause-complete : goal.returns-clause-complete
 returns-clause-complete g c =
     let P : Outcome → Type 0 = λ o. Contains (0 ∷ 6 ∷ 7 ∷ 9 ∷ []) o.status in
-    λ x spelled told no_read no_write.
-    subst P (sym c.of.ensures) (complete_by c.args.words.now _ _ _ _ x c.carry_out-answer.result c.carry_out-answer.ensures.answers spelled told no_read no_write)
+    λ x rules spelled told no_read no_write.
+    subst P (sym c.of.ensures) (complete_by c.args.words.now _ _ _ _ x rules c.carry_out-answer.result c.carry_out-answer.ensures.answers spelled told no_read no_write)
 
 pub returns-clause-written : goal.returns-clause-written
 returns-clause-written g c =
     λ end.
     let P : Outcome → Type 0 = λ o. (o.status ≡ end_status end) ↔ IsSomeAnd o.finished (IsWritten end) in
     subst P (sym c.of.ensures) (written_by c.carry_out-answer.result end)
+
+pub returns-clause-usage : goal.returns-clause-usage
+returns-clause-usage g c =
+    let P : Outcome → Type 0 = λ o. o.status ≡ 2 → SpellsNoRun c.args.words.now in
+    subst P (sym c.of.ensures) (usage_by c.args.words.now _ _ _ _ c.carry_out-answer.result c.carry_out-answer.ensures.answers)
+
+pub returns-clause-unspelled : goal.returns-clause-unspelled
+returns-clause-unspelled g c =
+    let P : Outcome → Type 0 = λ o. Contains (2 ∷ 5 ∷ []) o.status in
+    λ none.
+    subst P (sym c.of.ensures) (unspelled_by c.args.words.now _ _ _ _ c.carry_out-answer.result c.carry_out-answer.ensures.answers none)
+
+pub returns-clause-no_exercise : goal.returns-clause-no_exercise
+returns-clause-no_exercise g c =
+    let P : Outcome → Type 0 = λ o. Contains (3 ∷ 4 ∷ 5 ∷ 9 ∷ []) o.status in
+    λ rules spelled none.
+    subst P (sym c.of.ensures) (no_exercise_by c.args.words.now _ _ _ _ rules c.carry_out-answer.result c.carry_out-answer.ensures.answers spelled none)

@@ -1,15 +1,25 @@
 ghost use Rattle.std.specs.Prelude.{◌≡◌, ◌≤◌, MatchResult};
-ghost use Rattle.tm_mentor.specs.Words.{SpellsRun};
+ghost use Rattle.tm_mentor.specs.Words.{SpellsNoRun};
 ghost use Rattle.tm_mentor.specs.Outside.{input_of};
-ghost use Rattle.tm_mentor.specs.Found.{IsFound, LacksExercise};
+ghost use Rattle.tm_mentor.specs.Found.{HasCommand, LacksCommand};
 
 use crate::refusals::Refusal;
 use crate::words::spell_run;
 use std::alloc::Global;
 use tm_outside::{ReadFault, Source, read_all};
+use tm_session::Rules;
 use tm_text::{Exercise, NoExercise, read};
 
-/// Why there is no exercise to run.
+/// What a command is to run.
+#[derive(Debug, Drop)]
+pub(crate) struct Command {
+    /// The exercise.
+    pub exercise: Exercise,
+    /// What its run keeps to.
+    pub rules: Rules,
+}
+
+/// Why there is nothing to run.
 #[derive(Clone, Copy, Debug, PartialEq, Eq)]
 pub(crate) enum Lack {
     /// The command is refused.
@@ -21,28 +31,29 @@ pub(crate) enum Lack {
 /// How many bytes a text may have.
 const MOST_BYTES: u64 = 1_048_576;
 
-/// The exercise that the command is to run: the words spell one, and the source has a text.
-pub(crate) fn exercise_to_run<S: Source>(
+/// The exercise that is to be run, and its rules: the words spell them, and the source has its
+/// text.
+pub(crate) fn read_command<S: Source>(
     alloc: Global,
     words: &[String],
     source: &mut S,
-) -> Result<Exercise, Lack>
+) -> Result<Command, Lack>
     ensures found { MatchResult result
-        (IsFound words.now (input_of S.left S.fault_count source.old) (input_of S.left S.fault_count source.new))
-        (LacksExercise words.now (input_of S.left S.fault_count source.old) (input_of S.left S.fault_count source.new)) }
-    ensures unread { ¬ SpellsRun words.now → source.new ≡ source.old }
+        (HasCommand words.now (input_of S.left S.fault_count source.old) (input_of S.left S.fault_count source.new))
+        (LacksCommand words.now (input_of S.left S.fault_count source.old) (input_of S.left S.fault_count source.new)) }
+    ensures unread { SpellsNoRun words.now → source.new ≡ source.old }
     ensures never_falls { S.fault_count source.old ≤ S.fault_count source.new }
 {
-    if !spell_run(words) {
+    let Some(rules) = spell_run(words) else {
         return Err(Lack::Refused(Refusal::Usage));
-    }
+    };
     let bytes = match read_all(alloc, source, MOST_BYTES) {
         Ok(bytes) => bytes,
         Err(ReadFault::Failed) => return Err(Lack::Refused(Refusal::ReadFault)),
         Err(ReadFault::NoMemory) => return Err(Lack::NoMemory),
     };
     match read(alloc, bytes.as_slice()) {
-        Ok(exercise) => Ok(exercise),
+        Ok(exercise) => Ok(Command { exercise, rules }),
         Err(NoExercise::Text) => Err(Lack::Refused(Refusal::Text)),
         Err(NoExercise::NoMemory) => Err(Lack::NoMemory),
     }

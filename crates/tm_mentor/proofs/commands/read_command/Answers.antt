@@ -2,7 +2,7 @@ use Rattle.std.proofs.Common.{ℕ, List, lit<, subst, rules}
 use Rattle.tm_text.specs.Grammar.{IsExercise}
 use Rattle.tm_mentor.specs.Found.{IsNoExercise}
 use Rattle.tm_mentor.proofs.Judged.{exercise_of_all, no_exercise_of_all}
-use Rattle.tm_mentor.proofs.exercises.exercise_to_run.Goals as goal
+use Rattle.tm_mentor.proofs.commands.read_command.Goals as goal
 
 pub returns-in-Ok-read-clause-found : goal.returns-in-Ok-read-clause-found
 returns-in-Ok-read-clause-found g c =
@@ -19,6 +19,7 @@ pub returns-in-Err-Text-clause-found : goal.returns-in-Err-Text-clause-found
 returns-in-Err-Text-clause-found g c =
     let none : IsNoExercise c.in-Ok.bytes = subst IsNoExercise c.as_slice.ensures (c.read.ensures.refused cc) in
     record {
+      rules = c.in-Some.rules;
       spelled = search rules;
       front = search rules;
       steady = search rules;

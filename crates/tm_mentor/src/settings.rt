@@ -1,0 +1,96 @@
+ghost use Rattle.std.specs.Prelude.{◌≡◌, ◌∷◌, [], ◌^◌, ◌≤◌, ℕ, MatchOption};
+ghost use Rattle.tm_mentor.specs.Words.{IsNumber, Spells};
+ghost use Rattle.tm_mentor.specs.Choosing.{chosen_with, rules_from};
+
+use tm_session::Rules;
+
+/// What an option sets.
+#[derive(Clone, Copy, Debug, PartialEq, Eq)]
+pub(crate) enum Setting {
+    /// The schedule.
+    Schedule(u64),
+    /// How many calls a thread may make.
+    Events(u32),
+}
+
+/// The values that the options so far have set.
+#[derive(Clone, Copy, Debug, PartialEq, Eq)]
+pub(crate) struct Chosen {
+    /// The schedule, where it was set.
+    pub schedule: Option<u64>,
+    /// How many calls a thread may make, where it was set.
+    pub events: Option<u32>,
+}
+
+/// The schedule where none is set.
+const USUAL_SCHEDULE: u64 = 0;
+
+/// How many calls a thread may make where no number is set.
+const USUAL_EVENTS: u32 = 1_000;
+
+/// How many calls a thread may be given.
+const MOST_EVENTS: u64 = 10_000;
+
+impl Chosen {
+    /// With one setting more. `None` where its kind was set before.
+    pub(crate) fn with(self, setting: Setting) -> Option<Chosen>
+        ensures { result ≡ chosen_with self setting }
+    {
+        match setting {
+            Setting::Schedule(schedule) if self.schedule.is_none() => Some(Chosen {
+                schedule: Some(schedule),
+                ..self
+            }),
+            Setting::Events(limit) if self.events.is_none() => Some(Chosen {
+                events: Some(limit),
+                ..self
+            }),
+            _ => None,
+        }
+    }
+
+    /// The rules that they make, with the usual values where none was set.
+    pub(crate) fn rules(self) -> Rules
+        ensures { result ≡ rules_from self }
+    {
+        Rules {
+            schedule: self.schedule.unwrap_or(USUAL_SCHEDULE),
+            limit: self.events.unwrap_or(USUAL_EVENTS),
+        }
+    }
+}
+
+/// The setting that an option's word and its value's word spell, if they spell one.
+pub(crate) fn setting_of(option: &str, number: &str) -> Option<Setting>
+    ensures { MatchOption result ((s : Setting) → ¬ Spells (option.now ∷ number.now ∷ []) s)
+        (λ s. Spells (option.now ∷ number.now ∷ []) s) }
+{
+    match option {
+        "--schedule" => Some(Setting::Schedule(value_of(number)?)),
+        "--events" => Some(Setting::Events(limit_of(number)?)),
+        _ => None,
+    }
+}
+
+/// The number below 2^64 that the digits spell, if the text is digits of one.
+fn value_of(number: &str) -> Option<u64>
+    ensures { MatchOption result ((n : ℕ) → IsNumber number.now n → 2 ^ 64 ≤ n)
+        (λ n. IsNumber number.now n) }
+{
+    if number.starts_with('+') {
+        return None;
+    }
+    number.parse::<u64>().ok()
+}
+
+/// The number from 1 to 10,000 that the digits spell, if the text is digits of one.
+fn limit_of(number: &str) -> Option<u32>
+    ensures { MatchOption result ((n : ℕ) → IsNumber number.now n → 1 ≤ n → ¬ (n ≤ 10000))
+        (λ n. IsNumber number.now n × (1 ≤ n) × (n ≤ 10000)) }
+{
+    let value = value_of(number)?;
+    if value < 1 || MOST_EVENTS < value {
+        return None;
+    }
+    Some(value as u32)
+}
