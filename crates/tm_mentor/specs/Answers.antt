@@ -10,6 +10,7 @@ use Rattle.tm_replay.specs.JointSteps.{IsJointRun}
 use Rattle.tm_session.specs.declared.rules.Rules.{Rules}
 use Rattle.tm_session.specs.declared.runs.Finished.{Finished}
 use Rattle.tm_session.specs.Pages.{IsAloneText, BeginsAloneText}
+use Rattle.tm_session.specs.Shelves.{AreBooksOf}
 use Rattle.tm_session.specs.Sending.{IsSent}
 use Rattle.tm_mentor.specs.declared.refusals.Refusal.{Refusal}
 use Rattle.tm_mentor.specs.declared.answers.Answer.{Answer}
@@ -51,13 +52,15 @@ pub record IsRefused (words : List (String Global)) (read read' : Input) (sent s
   pub line : Sends failed sent sent' (line_of refusal)
 
 -- The exercise that was found ran to its end: its events are those of its alone run under the rules
--- that the words spell, and a legal run of all objects together. The text of that run was sent.
+-- that the words spell, and a legal run of all objects together; each object's book has the object's
+-- events of these, which are a legal history; and the text of that run was sent.
 pub record Runs (words : List (String Global)) (read read' : Input) (sent sent' : Output) (f : Finished) : Type 0 where
   pub rules : Rules
   pub exercise : ExerciseView
   pub found : IsFound words rules read read' exercise
   pub joint : Joint
   pub legal : IsJointRun exercise f.shown joint
+  pub books : AreBooksOf exercise f.shown f.books
   pub bytes : List ℕ
   pub text : IsAloneText exercise rules f.shown f.end f.cut bytes
   pub whole : Sends f.write_fault sent sent' bytes

@@ -11,7 +11,7 @@ use tm_outside::{Sink, Source, write_all};
 use tm_session::{Finished, alone};
 
 /// How a command ended.
-#[derive(Debug, Drop)]
+#[derive(Drop)]
 pub(crate) enum Answer {
     /// Nothing was run, and the line that says why was sent to the sink, which may have failed.
     Refused { refusal: Refusal, write_fault: bool },

@@ -7,7 +7,7 @@ use tm_base::End;
 use tm_session::Finished;
 
 /// What a command answers: its status, and the run where one ended.
-#[derive(Debug, Drop)]
+#[derive(Drop)]
 pub struct Outcome {
     /// 0, 6 or 7: a run ended by itself, stuck or with a thread cut at its limit of calls, and its
     /// text was written. 2: the words spell no run. 3: what was read is the text of no exercise. 4:
