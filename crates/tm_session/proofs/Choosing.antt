@@ -1,9 +1,9 @@
 -- The thread that moves next.
-use Rattle.std.proofs.Common.{◌≡◌, ◌≢◌, ℕ, zero, suc, ◌+◌, ◌-◌, ◌/◌, ◌%◌, ◌^◌, ◌==◌, if◌then◌else◌, ◌<◌, ◌≤◌, Bool, true, false, not, ◌&&◌, ⊎_elim, cond, List, [], ◌∷◌, ◌++◌, map, length, filter, find, Option, Some, None, slice_get, get_or, refl, ap, sym, ◌∙◌, arith}
+use Rattle.std.proofs.Common.{◌≡◌, ◌≢◌, ℕ, zero, suc, ◌+◌, ◌-◌, ◌/◌, ◌%◌, ◌^◌, ◌==◌, if◌then◌else◌, ◌<◌, ◌≤◌, Bool, true, false, not, ◌&&◌, ⊎_elim, cond, List, [], ◌∷◌, ◌++◌, length, filter, find, Option, Some, None, slice_get, get_or, refl, ap, sym, ◌∙◌, arith}
 use Rattle.std.specs.List.{range_with_len, list_all}
 use Rattle.std.specs.Option.{option_map, option_or}
 use Rattle.std.proofs.lemmas.Bool.{false≢true, cases_lt}
-use Rattle.std.proofs.lemmas.List.FromFn.{length-range_with_len}
+use Rattle.std.proofs.lemmas.List.FromFn.{length-map-range_with_len}
 use Rattle.std.proofs.lemmas.List.Folds.{find-append}
 use Rattle.std.proofs.Math.Nat.{mod-lt}
 use Rattle.std.proofs.lemmas.Option.{slice_get-map, slice_get_within, slice_get-get_or}
@@ -72,12 +72,8 @@ bar-at j t h =
     let e : 1 + t ≡ suc t = omega arith in
     slice_get-map (bar_of j) (range_with_len 1 (length j.standings - 1)) t ∙ ap (λ o. option_map (bar_of j) o) (slice_get-range 1 (length j.standings - 1) t h ∙ ap Some e)
 
-length-map' : {A B : Type 0} (f : A → B) (xs : List A) → length (map f xs) ≡ length xs
-length-map' f [] = refl
-length-map' f (x ∷ xs) = ap suc (length-map' f xs)
-
 pub bars-count : (j : Joint) → length (bars_of j) ≡ length j.standings - 1
-bars-count j = length-map' (bar_of j) (range_with_len 1 (length j.standings - 1)) ∙ length-range_with_len 1 (length j.standings - 1)
+bars-count j = length-map-range_with_len (bar_of j) 1 (length j.standings - 1)
 
 -- a thread that runs by the bars is a program thread, and runnable
 pub runs-known : (j : Joint) (t : ℕ) → runs_at (bars_of j) t ≡ true → (1 ≤ t) × (t < length j.standings) × (is_runnable (bar_of j t) ≡ true)

@@ -1,7 +1,7 @@
 -- Which objects `main` stops.
-use Rattle.std.proofs.Common.{◌≡◌, ◌≢◌, ℕ, zero, suc, ◌+◌, ◌<◌, ◌≤◌, Bool, true, false, not, ◌&&◌, ◌⊎◌, inl, inr, ⊎_elim, cond, if◌then◌else◌, List, [], ◌∷◌, filter, length, Option, Some, None, slice_get, slice_set, refl, ap, sym, ◌∙◌, subst, arith}
+use Rattle.std.proofs.Common.{◌≡◌, ◌≢◌, ℕ, zero, suc, ◌+◌, ◌<◌, ◌≤◌, Bool, true, false, not, ◌&&◌, ⊎_elim, cond, if◌then◌else◌, List, [], ◌∷◌, filter, length, Option, Some, None, slice_get, slice_set, refl, ap, sym, ◌∙◌, subst, arith}
 use Rattle.std.specs.List.{range_with_len, list_all, AllByRecursion}
-use Rattle.std.proofs.lemmas.Bool.{false≢true}
+use Rattle.std.proofs.lemmas.Bool.{cases_Bool, false≢true}
 use Rattle.std.proofs.lemmas.Option.{slice_get_within}
 use Rattle.tm_base.specs.declared.outcomes.Bar.{Bar}
 use Rattle.tm_base.specs.declared.outcomes.Bar.TheVariants as bar
@@ -15,10 +15,6 @@ use Rattle.tm_replay.specs.Sound.{IsSoundJoint, IsAmong}
 use Rattle.tm_session.specs.Running.{AreWaited}
 use Rattle.tm_session.specs.Turns.{due_by}
 use Rattle.tm_session.proofs.Choosing.{bar-at, bars-count}
-
-bool_cases : (b : Bool) → (b ≡ true) ⊎ (b ≡ false)
-bool_cases true = inl refl
-bool_cases false = inr refl
 
 -- what a range keeps rises from its start
 filter-rises : (p : ℕ → Bool) (low a n : ℕ) → low < a → AllByRecursion (λ k. low < k) (filter p (range_with_len a n))
@@ -136,7 +132,7 @@ stuck-waited x j sound stuck none =
 -- where nothing is due the state isn't stuck
 pub none-due : (x : ExerciseView) (j : Joint) (stops : List ℕ) → IsSoundJoint x j → due_by stops j ≡ [] → (is_stuck (bars_of j) ≡ false) × (stops ≡ [])
 none-due x j (o ∷ os) sound h = absurd cc
-none-due x j [] sound h = (⊎_elim (λ (stuck : is_stuck (bars_of j) ≡ true). absurd (stuck-waited x j sound stuck (sym (ap (λ b. if b then waited_objects j else []) stuck) ∙ h))) (λ (free : is_stuck (bars_of j) ≡ false). free) (bool_cases (is_stuck (bars_of j))), refl)
+none-due x j [] sound h = (⊎_elim (λ (stuck : is_stuck (bars_of j) ≡ true). absurd (stuck-waited x j sound stuck (sym (ap (λ b. if b then waited_objects j else []) stuck) ∙ h))) (λ (free : is_stuck (bars_of j) ≡ false). free) (cases_Bool (is_stuck (bars_of j))), refl)
 
 -- an event on one object leaves the waiters of the others
 slice_get-set_other : {A : Type 0} (xs : List A) (i k : ℕ) (v : A) → k ≢ i → slice_get (slice_set xs i v) k ≡ slice_get xs k

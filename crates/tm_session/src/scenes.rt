@@ -61,6 +61,7 @@ impl Scene {
         requires sound { IsSoundJoint exercise.now (joint_of self.now) }
         ensures { result ≡ bar_of (joint_of self.now) thread }
     {
+        // What holds of every exercise is known once it is read.
         let _exercise = exercise;
         self.bar_in(thread, self.seats[thread as usize].phase())
     }

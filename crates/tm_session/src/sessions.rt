@@ -34,6 +34,7 @@ impl Session {
         ensures under_way { IfOk result (IsUnderWay exercise.now rules) }
         ensures sent { IfOk result (λ session. (count : ℕ) (bytes : Option (List ℕ)) → HasSent exercise.now session count count bytes bytes) }
     {
+        // What holds of every exercise is known from this call.
         let _threads = exercise.threads();
         let run = Run::make(alloc, exercise, rules)?;
         let bars = run.scene.bars(alloc, exercise)?;

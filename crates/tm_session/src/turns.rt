@@ -113,6 +113,7 @@ impl Run {
         ensures stops { IfOk result (λ e. Stops exercise.now self.old object e self.new) }
         ensures keeps { (es : List Entry) → HasKept es self.old.scene → IfOk result (λ e. HasKept (es ++ e ∷ []) self.new.scene) }
     {
+        // What holds of every exercise is known once it is read.
         let _exercise = exercise;
         self.scene.perform(
             0,
