@@ -25,7 +25,7 @@ use Rattle.tm_session.proofs.Reading.{found_at}
 use Rattle.tm_session.proofs.Showing.{bar_of-seat}
 
 -- an event that was made and may be made is a joint step
-pub performed : (x : ExerciseView) (j k : Joint) (t : ℕ) (w : Wish) (e : Entry) (p : Performs j t w e k) → May x e.thread p.standing e.object e.op → JointStep x j e k
+abbrev pub performed : (x : ExerciseView) (j k : Joint) (t : ℕ) (w : Wish) (e : Entry) (p : Performs j t w e k) → May x e.thread p.standing e.object e.op → JointStep x j e k
 performed x j k t w e p may = record {
   standing = p.standing;
   thread = p.thread;
@@ -124,21 +124,7 @@ module _ (x : ExerciseView) (j : Joint) (formed : IsWellFormed x) (sound : IsSou
           (subst (λ (u : Op). MayIn (own_of x.objects t) s.phase s.rest w.object u) (sym p.does) may))) in
           let within : KeepsLimit limit p.standing e.op =
           subst (λ (u : Standing). KeepsLimit limit u e.op) (sym same) (subst (λ (u : Op). KeepsLimit limit s u) (sym p.does) keeps) in
-          let step : JointStep x j e k = record {
-            standing = p.standing;
-            thread = p.thread;
-            spot = p.spot;
-            object = p.object;
-            place = p.place;
-            at = p.at;
-            stamp = p.stamp;
-            may = may';
-            state = p.state;
-            lawful = p.lawful;
-            objects = p.objects;
-            standings = p.standings;
-          } in
-          (step, within)
+          (performed x j k t w e p may', within)
 
   -- `main` can stop an object that has a waiter
   pub can_halt : (object : ℕ) → IsEarly j → has_waiter (slice_get j.objects object) ≡ true → CanPerform j 0 (record { object = object; op = op.Stop })
