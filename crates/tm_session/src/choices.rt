@@ -109,3 +109,26 @@ pub fn is_runnable(bar: Bar) -> bool
 {
     !matches!(bar, Bar::Ended | Bar::Blocked)
 }
+
+#[cfg(test)]
+mod tests {
+    use super::*;
+    use std::test::Fail;
+
+    #[test]
+    fn schedule_1_first_draws_its_number(rt: HostRuntime) -> Result<(), Fail> {
+        assert_eq!(rt; draw_after(1, 1), 7_806_831_264_735_756_412);
+        assert_eq!(rt; draw_after(0, 1), 1);
+        Ok(())
+    }
+
+    #[test]
+    fn the_upper_bits_pick(rt: HostRuntime) -> Result<(), Fail> {
+        let bars = [Bar::Unborn, Bar::Runs, Bar::Blocked, Bar::Granted];
+        let draw = 7_806_831_264_735_756_412;
+        assert_eq!(rt; draw >> 33, 908_834_774);
+        let chosen = choose(rt.alloc(), bars.as_slice(), 1, 0, draw)?;
+        assert_eq!(rt; chosen, Some(4));
+        Ok(())
+    }
+}
