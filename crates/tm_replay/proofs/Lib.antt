@@ -5,3 +5,4 @@ pub mod Soundness
 pub mod Falling
 pub mod Starts
 pub mod Histories
+pub mod Closing

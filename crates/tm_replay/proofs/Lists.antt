@@ -1,5 +1,5 @@
--- One element of a list is set, or stands at the end.
-use Rattle.std.proofs.Common.{◌≡◌, ◌≢◌, ℕ, zero, suc, ◌+◌, ◌<◌, Bool, true, false, cond, ◌⊎◌, inl, inr, ⊎_elim, List, [], ◌∷◌, ◌++◌, filter, Some, slice_get, slice_set, length, refl, ap, ◌∙◌, arith}
+-- One element of a list is set, or stands at the end; and where an element stands.
+use Rattle.std.proofs.Common.{◌≡◌, ◌≢◌, ℕ, zero, suc, ◌+◌, ◌<◌, Bool, true, false, cond, ◌⊎◌, inl, inr, ⊎_elim, List, [], ◌∷◌, ◌++◌, filter, Some, slice_get, slice_set, length, Contains, refl, sym, ap, ◌∙◌, arith}
 use Rattle.std.specs.List.{range_with_len}
 use Rattle.std.proofs.lemmas.List.{append-nil}
 use Rattle.std.proofs.lemmas.List.Elements.{filter-append}
@@ -33,3 +33,31 @@ range-snoc a zero =
 range-snoc a (suc n) =
     let next : a + 1 + n ≡ a + suc n = omega arith in
     ap (λ l. a ∷ l) (range-snoc (a + 1) n) ∙ ap (λ k. a ∷ (range_with_len (a + 1) n ++ k ∷ [])) next
+
+-- what stands at a place of the list is kept, or was set
+pub slice_get-set_kept : {A : Type 0} (xs : List A) (i k : ℕ) (v y : A) → slice_get xs k ≡ Some y → ((k ≡ i) × (slice_get (slice_set xs i v) k ≡ Some v)) ⊎ (slice_get (slice_set xs i v) k ≡ Some y)
+slice_get-set_kept [] i k v y h = inr h
+slice_get-set_kept (x ∷ xs) zero zero v y h = inl (refl, refl)
+slice_get-set_kept (x ∷ xs) zero (suc k) v y h = inr h
+slice_get-set_kept (x ∷ xs) (suc i) zero v y h = inr h
+slice_get-set_kept (x ∷ xs) (suc i) (suc k) v y h =
+    ⊎_elim (λ same. inl (ap suc same.0, same.1)) (λ other. inr other) (slice_get-set_kept xs i k v y h)
+
+-- an element is the first one, or one of the others
+pub Contains-first : {A : Type 0} (y : A) (xs : List A) (x : A) → Contains (y ∷ xs) x → (x ≡ y) ⊎ Contains xs x
+Contains-first y xs x (zero, h, is) = inl (sym is)
+Contains-first y xs x (suc k, h, is) = inr (k, omega (arith, h), is)
+
+-- an element takes the list apart into what stands before it and what stands behind it
+pub Contains-parts : {A : Type 0} (xs : List A) (x : A) → Contains xs x → (front : List A) × (back : List A) × (xs ≡ front ++ x ∷ back)
+Contains-parts [] x h = absurd (omega (arith, h.1))
+Contains-parts (y ∷ xs) x h = ⊎_elim
+    (λ (same : x ≡ y). ([], xs, ap (λ z. z ∷ xs) (sym same)))
+    (λ (after : Contains xs x). let parts = Contains-parts xs x after in (y ∷ parts.0, parts.1, ap (λ l. y ∷ l) parts.2))
+    (Contains-first y xs x h)
+
+-- what stands at a place is an element
+pub Contains-at : {A : Type 0} (xs : List A) (i : ℕ) (x : A) → slice_get xs i ≡ Some x → Contains xs x
+Contains-at [] i x h = absurd cc
+Contains-at (y ∷ xs) zero x h = (zero, omega arith, cc)
+Contains-at (y ∷ xs) (suc i) x h = let there = Contains-at xs i x h in (suc there.0, omega (arith, there.1), there.2)

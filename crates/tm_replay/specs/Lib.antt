@@ -5,3 +5,4 @@ pub mod Ends
 pub mod Sound
 pub mod Work
 pub mod Histories
+pub mod Closing

@@ -3,6 +3,7 @@
 
 mod phases;
 
+ghost use Rattle.tm_replay.specs.Closing.{PrefixesAreClosed};
 ghost use Rattle.tm_replay.specs.Histories.{ObjectsHaveHistories, ThreadsHavePlaces};
 
 pub use phases::Phase;
@@ -17,4 +18,11 @@ pub fn objects_have_histories()
 /// the place of its next event is one more than their number.
 pub fn threads_have_places()
     ensures { ThreadsHavePlaces }
+{}
+
+/// The first events of a joint run, however many, are closed under Lamport's happened-before, and
+/// so a consistent cut of the run: they are events of the run, none stands twice, and all that
+/// happened before one of them stands before it.
+pub fn prefixes_are_closed()
+    ensures { PrefixesAreClosed }
 {}

@@ -1,0 +1,12 @@
+-- What a joint run is when it is cut after any of its events, as a whole statement.
+use Rattle.std.specs.Prelude.{◌≡◌, List, ◌++◌}
+use Rattle.tm_base.specs.declared.events.Entry.{Entry}
+use Rattle.tm_base.specs.Orders.{IsClosed}
+use Rattle.tm_text.specs.Exercises.{ExerciseView}
+use Rattle.tm_replay.specs.Joint.{Joint}
+use Rattle.tm_replay.specs.JointSteps.{IsJointRun}
+
+-- The first events of a joint run, however many, are closed in all its events: a consistent cut.
+abbrev pub PrefixesAreClosed : Type 0
+PrefixesAreClosed = (x : ExerciseView) (es : List Entry) (j : Joint) → IsJointRun x es j
+    → (front back : List Entry) → es ≡ front ++ back → IsClosed front es
