@@ -6,6 +6,7 @@ use Rattle.tm_base.specs.declared.outcomes.End.TheVariants.{Done, Stuck, Budget}
 use Rattle.tm_outside.specs.Appending.{AppendsPrefix}
 use Rattle.tm_text.specs.Exercises.{ExerciseView}
 use Rattle.tm_replay.specs.Joint.{Joint}
+use Rattle.tm_replay.specs.Closing.{FrontsAreClosed}
 use Rattle.tm_replay.specs.JointSteps.{IsJointRun}
 use Rattle.tm_session.specs.declared.rules.Rules.{Rules}
 use Rattle.tm_session.specs.declared.runs.Finished.{Finished}
@@ -52,14 +53,16 @@ pub record IsRefused (words : List (String Global)) (read read' : Input) (sent s
   pub line : Sends failed sent sent' (line_of refusal)
 
 -- The exercise that was found ran to its end: its events are those of its alone run under the rules
--- that the words spell, and a legal run of all objects together; each object's book has the object's
--- events of these, which are a legal history; and the text of that run was sent.
+-- that the words spell, and a legal run of all objects together; cut after any of them, they are closed
+-- under happened-before, and none stands twice; each object's book has the object's events of these, which
+-- are a legal history; and the text of that run was sent.
 pub record Runs (words : List (String Global)) (read read' : Input) (sent sent' : Output) (f : Finished) : Type 0 where
   pub rules : Rules
   pub exercise : ExerciseView
   pub found : IsFound words rules read read' exercise
   pub joint : Joint
   pub legal : IsJointRun exercise f.shown joint
+  pub closed : FrontsAreClosed f.shown
   pub books : AreBooksOf exercise f.shown f.books
   pub bytes : List ℕ
   pub text : IsAloneText exercise rules f.shown f.end f.cut bytes

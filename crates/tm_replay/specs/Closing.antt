@@ -6,7 +6,11 @@ use Rattle.tm_text.specs.Exercises.{ExerciseView}
 use Rattle.tm_replay.specs.Joint.{Joint}
 use Rattle.tm_replay.specs.JointSteps.{IsJointRun}
 
--- The first events of a joint run, however many, are closed in all its events: a consistent cut.
+-- However many of the events are taken from the front, they are closed under happened-before in all of
+-- them: each front is a consistent cut.
+abbrev pub FrontsAreClosed : List Entry → Type 0
+FrontsAreClosed es = (front back : List Entry) → es ≡ front ++ back → IsClosed front es
+
+-- The fronts of a joint run are closed.
 abbrev pub PrefixesAreClosed : Type 0
-PrefixesAreClosed = (x : ExerciseView) (es : List Entry) (j : Joint) → IsJointRun x es j
-    → (front back : List Entry) → es ≡ front ++ back → IsClosed front es
+PrefixesAreClosed = (x : ExerciseView) (es : List Entry) (j : Joint) → IsJointRun x es j → FrontsAreClosed es

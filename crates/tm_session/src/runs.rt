@@ -1,6 +1,7 @@
 ghost use Rattle.std.specs.Prelude.{◌≡◌, ◌≤◌, IfOk, OnErr, List, ℕ};
 ghost use Rattle.tm_outside.specs.Appending.{AppendsPrefix};
 ghost use Rattle.tm_replay.specs.Joint.{Joint};
+ghost use Rattle.tm_replay.specs.Closing.{FrontsAreClosed};
 ghost use Rattle.tm_replay.specs.JointSteps.{IsJointRun};
 ghost use Rattle.tm_session.specs.Shelves.{AreBooksOf};
 ghost use Rattle.tm_session.specs.Pages.{IsAloneText, BeginsAloneText};
@@ -47,6 +48,8 @@ pub fn alone<K: Sink>(
         × IsSent f.write_fault (K.fault_count sink.old) (K.fault_count sink.new) (K.written sink.old) (K.written sink.new) bytes) }
     // They are a legal run of all objects together.
     ensures legal { IfOk result (λ f. (j : Joint) × IsJointRun exercise.now f.shown j) }
+    // Cut after any of them, they are closed under happened-before, and none stands twice.
+    ensures closed { IfOk result (λ f. FrontsAreClosed f.shown) }
     // Each object's book has the object's events of these, which are a legal history.
     ensures books { IfOk result (λ f. AreBooksOf exercise.now f.shown f.books) }
     ensures refused { OnErr result ((bytes : List ℕ) × BeginsAloneText exercise.now (rules_of schedule limit) bytes

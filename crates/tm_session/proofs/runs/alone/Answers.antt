@@ -3,7 +3,9 @@ use Rattle.std.proofs.lemmas.Result.{IfOk-weaker, on_err_weaker}
 use Rattle.tm_base.specs.declared.events.Entry.{Entry}
 use Rattle.tm_outside.specs.Appending.{AppendsPrefix}
 use Rattle.tm_replay.specs.Joint.{Joint}
+use Rattle.tm_replay.specs.Closing.{FrontsAreClosed}
 use Rattle.tm_replay.specs.JointSteps.{IsJointRun}
+use Rattle.tm_replay.proofs.Closing.{prefixes-are_closed}
 use Rattle.tm_book.specs.Books.{BookView}
 use Rattle.tm_text.specs.Exercises.{ExerciseView}
 use Rattle.tm_session.specs.declared.runs.Finished.{Finished}
@@ -49,6 +51,15 @@ returns-clause-legal g c =
     let legal = alone-legal x (rules_of c.args.schedule c.args.limit) s.shown.items (turn_of s.run) way.formed way.begins in
     IfOk-weaker c.finish.result (λ f. f.shown ≡ s.shown.items) (λ f. (j : Joint) × IsJointRun x f.shown j)
     (λ f shown. (joint_of s.run.scene, subst (λ (es : List Entry). IsJointRun x es (joint_of s.run.scene)) (sym shown) legal)) c.finish.ensures.shown
+
+pub returns-clause-closed : goal.returns-clause-closed
+returns-clause-closed g c =
+    let x = c.args.exercise.now in
+    let s = c.loop-rules.session in
+    let way = c.loop-rules.invariant.under_way in
+    let legal = alone-legal x (rules_of c.args.schedule c.args.limit) s.shown.items (turn_of s.run) way.formed way.begins in
+    IfOk-weaker c.finish.result (λ f. f.shown ≡ s.shown.items) (λ f. FrontsAreClosed f.shown)
+    (λ f shown. rw shown (prefixes-are_closed x s.shown.items (joint_of s.run.scene) legal)) c.finish.ensures.shown
 
 pub returns-clause-refused : goal.returns-clause-refused
 returns-clause-refused g c =
