@@ -1,9 +1,9 @@
 #!/usr/bin/env bash
 # Times the proved program on exercises of 64 threads, beside a yardstick in the same run.
 #
-# Each thread makes 16, 64, 250 or 1,000 calls, the most that a program may have, and locks and unlocks
-# one mutex in turn. With 64 mutexes each thread has its own, so that no call waits; with 8, eight threads
-# share each. The exercises are the same every time.
+# Each thread makes 16, 64, 256 or 1,024 calls, and locks and unlocks one mutex in turn. With 64 mutexes
+# each thread has its own, so that no call waits; with 8, eight threads share each. The exercises are the
+# same every time. Each event stands in its object's book, too.
 #
 # The yardstick is awk, which reads the rows of that run and writes each by a write of its own, as the
 # program does. Each time is the best of three. Beside the events and the seconds stands how many times
@@ -57,9 +57,9 @@ printf '%7s %6s %8s %6s %9s %6s %10s %9s %6s\n' \
     mutexes calls events more seconds more events/s yardstick ratio
 for mutexes in 64 8; do
     events_before=0 took_before=0
-    for calls in 16 64 250 1000; do
+    for calls in 16 64 256 1024; do
         exercise "$calls" "$mutexes" >"$room/exercise"
-        best_of_three "$room/exercise" "$room/rows" "$program" run
+        best_of_three "$room/exercise" "$room/rows" "$program" run --events 10000
         took=$best
         read -r word events < <(tail -n 1 "$room/rows")
         if [ "$word" != done ] || [ "$(wc -l <"$room/rows")" -ne $((events + 1)) ]; then
