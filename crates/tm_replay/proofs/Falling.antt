@@ -92,27 +92,27 @@ bool_cases false = inr refl
 
 module _ (x : ExerciseView) (j k : Joint) (e : Entry) (formed : IsWellFormed x) (sound : IsSoundJoint x j) (step : JointStep x j e k) where
   abbrev seat : Standing
-  seat = step.standing
+  seat = step.happens.standing
 
   abbrev spot : Place
-  spot = step.spot
+  spot = step.happens.spot
 
   threads : sum_by work_of k.standings + work_of seat ≡ sum_by work_of j.standings + work_of (stepped seat e)
-  threads = subst (λ (l : List Standing). sum_by work_of l + work_of seat ≡ sum_by work_of j.standings + work_of (stepped seat e)) (sym step.standings)
-      (sum_by-lower work_of j.standings e.thread seat (stepped seat e) step.thread)
+  threads = subst (λ (l : List Standing). sum_by work_of l + work_of seat ≡ sum_by work_of j.standings + work_of (stepped seat e)) (sym step.happens.standings)
+      (sum_by-lower work_of j.standings e.thread seat (stepped seat e) step.happens.thread)
 
-  objects : sum_by stop_of k.objects + stop_of spot ≡ sum_by stop_of j.objects + stop_of (entered spot e step.state)
-  objects = subst (λ (l : List Place). sum_by stop_of l + stop_of spot ≡ sum_by stop_of j.objects + stop_of (entered spot e step.state)) (sym step.objects)
-      (sum_by-lower stop_of j.objects e.object spot (entered spot e step.state) step.object)
+  objects : sum_by stop_of k.objects + stop_of spot ≡ sum_by stop_of j.objects + stop_of (entered spot e step.happens.state)
+  objects = subst (λ (l : List Place). sum_by stop_of l + stop_of spot ≡ sum_by stop_of j.objects + stop_of (entered spot e step.happens.state)) (sym step.happens.objects)
+      (sum_by-lower stop_of j.objects e.object spot (entered spot e step.happens.state) step.happens.object)
 
-  moved : Moves spot.held e.thread e.op e.reply step.state
+  moved : Moves spot.held e.thread e.op e.reply step.happens.state
   moved = step-moves x j k e formed sound step
 
   -- a resume's reply doesn't wait
   final : e.op ≡ op.Resume → is_wait e.reply ≡ false
   final b =
-      let resumes' = subst (λ (o : Op). Lawful spot.held e.thread o e.reply step.state) b step.lawful in
-      grant-plain e.reply ((sound.objects e.object spot step.object).sound.tidy.final e.thread e.reply resumes'.granted)
+      let resumes' = subst (λ (o : Op). Lawful spot.held e.thread o e.reply step.happens.state) b step.happens.lawful in
+      grant-plain e.reply ((sound.objects e.object spot step.happens.object).sound.tidy.final e.thread e.reply resumes'.granted)
 
   pub work-step : work k + 1 ≤ work j
   work-step = ⊎_elim main_case plain_case (bool_cases (is_main seat.phase))
@@ -120,9 +120,9 @@ module _ (x : ExerciseView) (j k : Joint) (e : Entry) (formed : IsWellFormed x) 
       main_case : is_main seat.phase ≡ true → work k + 1 ≤ work j
       main_case main =
           let stop : e.op ≡ op.Stop = step-stops x j k e formed sound step main in
-          let halts = subst (λ (o : Op). Lawful spot.held e.thread o e.reply step.state) stop step.lawful in
+          let halts = subst (λ (o : Op). Lawful spot.held e.thread o e.reply step.happens.state) stop step.happens.lawful in
           let before : stop_of spot ≡ 1 = ap (λ b. if b then 0 else 1) halts.running in
-          let now : stop_of (entered spot e step.state) ≡ 0 = ap (λ s. if s.stopped then 0 else 1) halts.halted in
+          let now : stop_of (entered spot e step.happens.state) ≡ 0 = ap (λ s. if s.stopped then 0 else 1) halts.halted in
           let is : seat.phase ≡ phase.Main = (step-main x j k e formed sound step main).0 in
           let is' : phase_after seat.phase e ≡ phase.Main = (step-main x j k e formed sound step main).1 in
           let old : work_of seat ≡ 0 = ap (λ p. work_in p seat.rest.left seat.rest.last) is in
@@ -134,7 +134,7 @@ module _ (x : ExerciseView) (j k : Joint) (e : Entry) (formed : IsWellFormed x) 
           let does = step-does x j k e formed sound step plain in
           let became = step-became x j k e formed sound step plain in
           let stopped : is_stop e.op ≡ false = step-after x j k e formed sound step plain in
-          let same : stop_of (entered spot e step.state) ≡ stop_of spot =
+          let same : stop_of (entered spot e step.happens.state) ≡ stop_of spot =
           ap (λ b. if b then 0 else 1) (moved.stopped ∙ ap (λ b. b || spot.held.state.stopped) stopped) in
           let is : phase_after seat.phase e ≡ phase_by e.op e.reply e.object = (step-stands x j k e formed sound step).1 plain in
           let less = falls (own_of x.objects e.thread) seat.phase seat.rest e.object e.op e.reply (step-stands x j k e formed sound step).0 final does became in

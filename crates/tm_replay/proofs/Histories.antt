@@ -36,28 +36,28 @@ histories-start x o b h =
 
 -- the step's event is the next one of its object's history
 step-follows : (x : ExerciseView) (j : Joint) (e : Entry) (k : Joint) (step : JointStep x j e k)
-    → Follows (label_at e.object step.spot.held) (point_at step.spot) e (point_at (entered step.spot e step.state))
+    → Follows (label_at e.object step.happens.spot.held) (point_at step.happens.spot) e (point_at (entered step.happens.spot e step.happens.state))
 step-follows x j e k step = record {
   object = refl;
-  at = step.at;
-  rises = omega (arith, step.stamp);
-  lawful = step.lawful;
+  at = step.happens.at;
+  rises = omega (arith, step.happens.stamp);
+  lawful = step.happens.lawful;
   now_at = refl;
   now_stamp = refl;
 }
 
 histories-step : (x : ExerciseView) (es : List Entry) (j : Joint) (e : Entry) (k : Joint) → HaveHistories es j → JointStep x j e k → HaveHistories (es ++ e ∷ []) k
 histories-step x es j e k holds step o c h =
-    let b : Place = step.spot in
-    let b' : Place = entered b e step.state in
+    let b : Place = step.happens.spot in
+    let b' : Place = entered b e step.happens.state in
     let l : Label = label_at e.object b.held in
-    let h' : slice_get (slice_set j.objects e.object b') o ≡ Some c = subst (λ (bs : List Place). slice_get bs o ≡ Some c) step.objects h in
+    let h' : slice_get (slice_set j.objects e.object b') o ≡ Some c = subst (λ (bs : List Place). slice_get bs o ≡ Some c) step.happens.objects h in
     ⊎_elim
     (λ (same : (o ≡ e.object) × (c ≡ b')).
     subst (λ (n : ℕ). IsHistory (label_at n c.held) (of_object (es ++ e ∷ []) n) (point_at c)) (sym same.0)
     (subst (λ (d : Place). IsHistory (label_at e.object d.held) (of_object (es ++ e ∷ []) e.object) (point_at d)) (sym same.1)
     (subst (λ (own : List Entry). IsHistory l own (point_at b')) (sym (filter-snoc_in (λ (f : Entry). f.object == e.object) es e (eq-eqb e.object e.object refl)))
-    (Leads-snoc (Follows l) (of_object es e.object) e (first_point l) (point_at b) (point_at b') (holds e.object b step.object) (step-follows x j e k step)))))
+    (Leads-snoc (Follows l) (of_object es e.object) e (first_point l) (point_at b) (point_at b') (holds e.object b step.happens.object) (step-follows x j e k step)))))
     (λ (other : (o ≢ e.object) × (slice_get j.objects o ≡ Some c)).
     subst (λ (own : List Entry). IsHistory (label_at o c.held) own (point_at c))
     (sym (filter-snoc_out (λ (f : Entry). f.object == o) es e (ne_eqb e.object o (λ q. other.0 (sym q)))))
@@ -96,15 +96,15 @@ RunFromOne-snoc own next e place runs =
 
 places-step : (x : ExerciseView) (es : List Entry) (j : Joint) (e : Entry) (k : Joint) → HavePlaces es j → JointStep x j e k → HavePlaces (es ++ e ∷ []) k
 places-step x es j e k holds step t r h =
-    let s : Standing = step.standing in
+    let s : Standing = step.happens.standing in
     let s' : Standing = stepped s e in
-    let h' : slice_get (slice_set j.standings e.thread s') t ≡ Some r = subst (λ (l : List Standing). slice_get l t ≡ Some r) step.standings h in
+    let h' : slice_get (slice_set j.standings e.thread s') t ≡ Some r = subst (λ (l : List Standing). slice_get l t ≡ Some r) step.happens.standings h in
     ⊎_elim
     (λ (same : (t ≡ e.thread) × (r ≡ s')).
     subst (λ (n : ℕ). RunFromOne (of_thread (es ++ e ∷ []) n) r.next) (sym same.0)
     (subst (λ (u : Standing). RunFromOne (of_thread (es ++ e ∷ []) e.thread) u.next) (sym same.1)
     (subst (λ (own : List Entry). RunFromOne own (e.place + 1)) (sym (filter-snoc_in (λ (f : Entry). f.thread == e.thread) es e (eq-eqb e.thread e.thread refl)))
-    (RunFromOne-snoc (of_thread es e.thread) s.next e step.place (holds e.thread s step.thread)))))
+    (RunFromOne-snoc (of_thread es e.thread) s.next e step.happens.place (holds e.thread s step.happens.thread)))))
     (λ (other : (t ≢ e.thread) × (slice_get j.standings t ≡ Some r)).
     subst (λ (own : List Entry). RunFromOne own r.next)
     (sym (filter-snoc_out (λ (f : Entry). f.thread == t) es e (ne_eqb e.thread t (λ q. other.0 (sym q)))))

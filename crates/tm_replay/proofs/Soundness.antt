@@ -58,22 +58,22 @@ answered-left program rest r done e = by_last rest.last refl
 
 module _ (x : ExerciseView) (j k : Joint) (e : Entry) (formed : IsWellFormed x) (sound : IsSoundJoint x j) (step : JointStep x j e k) where
   abbrev seat : Standing
-  seat = step.standing
+  seat = step.happens.standing
 
   abbrev spot : Place
-  spot = step.spot
+  spot = step.happens.spot
 
   placed : IsPlaced x e.object spot
-  placed = sound.objects e.object spot step.object
+  placed = sound.objects e.object spot step.happens.object
 
   stands : IsStanding x e.thread seat
-  stands = sound.standings e.thread seat step.thread
+  stands = sound.standings e.thread seat step.happens.thread
 
-  moved : Moves spot.held e.thread e.op e.reply step.state
-  moved = Lawful-moves spot.held e.thread e.op e.reply step.state placed.sound step.lawful
+  moved : Moves spot.held e.thread e.op e.reply step.happens.state
+  moved = Lawful-moves spot.held e.thread e.op e.reply step.happens.state placed.sound step.happens.lawful
 
-  noted : Noted e.op spot.held.state.own step.state.own
-  noted = Lawful-noted spot.held e.thread e.op e.reply step.state step.lawful
+  noted : Noted e.op spot.held.state.own step.happens.state.own
+  noted = Lawful-noted spot.held e.thread e.op e.reply step.happens.state step.happens.lawful
 
   -- what the thread does, where it isn't `main`
   does : is_main seat.phase ≡ false → Does (own_of x.objects e.thread) seat.phase seat.rest e.object e.op
@@ -95,7 +95,7 @@ module _ (x : ExerciseView) (j k : Joint) (e : Entry) (formed : IsWellFormed x) 
   became plain = becomes e.op e.reply e.object seat.rest (no_stop plain)
 
   among : e.object < length x.objects
-  among = rw (← sound.object_count) (slice_get_within j.objects e.object spot step.object)
+  among = rw (← sound.object_count) (slice_get_within j.objects e.object spot step.happens.object)
 
   abbrev after : Phase
   after = phase_after seat.phase e
@@ -200,8 +200,8 @@ module _ (x : ExerciseView) (j k : Joint) (e : Entry) (formed : IsWellFormed x) 
     where
       go : Becomes e.op e.reply e.object seat.rest → is_wait e.reply ≡ waits_at after e.object
       go (finished cut c q r) =
-          let over : is_wait e.reply ≡ false = end-answers spot.held e.thread cut e.reply step.state
-          (subst (λ (o : Op). Lawful spot.held e.thread o e.reply step.state) c step.lawful) in
+          let over : is_wait e.reply ≡ false = end-answers spot.held e.thread cut e.reply step.happens.state
+          (subst (λ (o : Op). Lawful spot.held e.thread o e.reply step.happens.state) c step.happens.lawful) in
           over ∙ sym (ap (λ p. waits_at p e.object) (by_phase plain ∙ q))
       go (waiting w n q r) = w ∙ sym (eq-eqb e.object e.object refl) ∙ sym (ap (λ p. waits_at p e.object) (by_phase plain ∙ q))
       go (freed w n q r) = w ∙ sym (ap (λ p. waits_at p e.object) (by_phase plain ∙ q))
@@ -232,35 +232,35 @@ module _ (x : ExerciseView) (j k : Joint) (e : Entry) (formed : IsWellFormed x) 
   TheSeat t r = ((t ≡ e.thread) × (r ≡ stepped seat e)) ⊎ ((t ≢ e.thread) × (slice_get j.standings t ≡ Some r))
 
   abbrev TheSpot : ℕ → Place → Type 0
-  TheSpot o c = ((o ≡ e.object) × (c ≡ entered spot e step.state)) ⊎ ((o ≢ e.object) × (slice_get j.objects o ≡ Some c))
+  TheSpot o c = ((o ≡ e.object) × (c ≡ entered spot e step.happens.state)) ⊎ ((o ≢ e.object) × (slice_get j.objects o ≡ Some c))
 
   seat_of : (t : ℕ) (r : Standing) → slice_get k.standings t ≡ Some r → TheSeat t r
-  seat_of t r h = slice_get-set_cases j.standings e.thread t (stepped seat e) r (subst (λ (l : List Standing). slice_get l t ≡ Some r) step.standings h)
+  seat_of t r h = slice_get-set_cases j.standings e.thread t (stepped seat e) r (subst (λ (l : List Standing). slice_get l t ≡ Some r) step.happens.standings h)
 
   spot_of : (o : ℕ) (c : Place) → slice_get k.objects o ≡ Some c → TheSpot o c
-  spot_of o c h = slice_get-set_cases j.objects e.object o (entered spot e step.state) c (subst (λ (l : List Place). slice_get l o ≡ Some c) step.objects h)
+  spot_of o c h = slice_get-set_cases j.objects e.object o (entered spot e step.happens.state) c (subst (λ (l : List Place). slice_get l o ≡ Some c) step.happens.objects h)
 
   -- other threads' calls stay as they are
-  others_pending : (t : ℕ) → t ≢ e.thread → is_pending step.state t ≡ is_pending spot.held.state t
+  others_pending : (t : ℕ) → t ≢ e.thread → is_pending step.happens.state t ≡ is_pending spot.held.state t
   others_pending t ne =
-      subst (λ (b : Bool). is_pending step.state t ≡ (if b then is_wait e.reply else is_pending spot.held.state t)) (ne_eqb t e.thread ne) (moved.pending t)
+      subst (λ (b : Bool). is_pending step.happens.state t ≡ (if b then is_wait e.reply else is_pending spot.held.state t)) (ne_eqb t e.thread ne) (moved.pending t)
 
-  own_pending : is_pending step.state e.thread ≡ is_wait e.reply
+  own_pending : is_pending step.happens.state e.thread ≡ is_wait e.reply
   own_pending =
-      subst (λ (b : Bool). is_pending step.state e.thread ≡ (if b then is_wait e.reply else is_pending spot.held.state e.thread)) (eq-eqb e.thread e.thread refl) (moved.pending e.thread)
+      subst (λ (b : Bool). is_pending step.happens.state e.thread ≡ (if b then is_wait e.reply else is_pending spot.held.state e.thread)) (eq-eqb e.thread e.thread refl) (moved.pending e.thread)
 
   pending_after : (t o : ℕ) (r : Standing) (c : Place) → 1 ≤ t → TheSeat t r → TheSpot o c → is_pending c.held.state t ≡ waits_at r.phase o
   pending_after t o r c h (inl mine) (inl here) =
       let acts : 1 ≤ e.thread = subst (λ (u : ℕ). 1 ≤ u) mine.0 h in
-      let there : is_pending step.state e.thread ≡ waits_at after e.object = own_pending ∙ waits_here (plain_thread acts) in
-      ap (λ b. is_pending b.held.state t) here.1 ∙ ap (is_pending step.state) mine.0 ∙ there
+      let there : is_pending step.happens.state e.thread ≡ waits_at after e.object = own_pending ∙ waits_here (plain_thread acts) in
+      ap (λ b. is_pending b.held.state t) here.1 ∙ ap (is_pending step.happens.state) mine.0 ∙ there
       ∙ sym (ap (waits_at after) here.0) ∙ sym (ap (λ s. waits_at s.phase o) mine.1)
   pending_after t o r c h (inl mine) (inr here) =
       let acts : 1 ≤ e.thread = subst (λ (u : ℕ). 1 ≤ u) mine.0 h in
-      ap (is_pending c.held.state) mine.0 ∙ sound.pending e.thread o seat c acts step.thread here.1
+      ap (is_pending c.held.state) mine.0 ∙ sound.pending e.thread o seat c acts step.happens.thread here.1
       ∙ waits_elsewhere (plain_thread acts) o here.0 ∙ sym (ap (λ s. waits_at s.phase o) mine.1)
   pending_after t o r c h (inr mine) (inl here) =
-      ap (λ b. is_pending b.held.state t) here.1 ∙ others_pending t mine.0 ∙ sound.pending t e.object r spot h mine.1 step.object
+      ap (λ b. is_pending b.held.state t) here.1 ∙ others_pending t mine.0 ∙ sound.pending t e.object r spot h mine.1 step.happens.object
       ∙ sym (ap (waits_at r.phase) here.0)
   pending_after t o r c h (inr mine) (inr here) = sound.pending t o r c h mine.1 here.1
 
@@ -275,17 +275,17 @@ module _ (x : ExerciseView) (j k : Joint) (e : Entry) (formed : IsWellFormed x) 
   owns_apart : (t : ℕ) → 1 ≤ t → t ≤ length x.programs → 1 ≤ e.thread → own_of x.objects t ≡ own_of x.objects e.thread → t ≡ e.thread
   owns_apart t h few acts same =
       let a = own_of-found x formed t h few in
-      let b = own_of-found x formed e.thread acts (known e.thread seat step.thread) in
+      let b = own_of-found x formed e.thread acts (known e.thread seat step.happens.thread) in
       let found : Some a.0 ≡ Some b.0 = sym a.1 ∙ ap (slice_get x.objects) same ∙ b.1 in
       let same_declared : a.0 ≡ b.0 = cc in
       let one : Some t ≡ Some e.thread = sym a.2 ∙ ap thread_of same_declared ∙ b.2 in
       cc
 
   -- on its own object a thread's life goes on as it does in the thread
-  life_here : 1 ≤ e.thread → own_of x.objects e.thread ≡ e.object → Lives step.state.own after
+  life_here : 1 ≤ e.thread → own_of x.objects e.thread ≡ e.object → Lives step.happens.state.own after
   life_here acts own =
       let was : Lives spot.held.state.own seat.phase =
-      sound.life e.thread seat spot acts step.thread (subst (λ (o : ℕ). slice_get j.objects o ≡ Some spot) (sym own) step.object) in
+      sound.life e.thread seat spot acts step.happens.thread (subst (λ (o : ℕ). slice_get j.objects o ≡ Some spot) (sym own) step.happens.object) in
       let now = lived (plain_thread acts) in
       (noted.begun ∙ ap (λ b. is_begin e.op || b) was.0 ∙ sym now.0, noted.ended ∙ ap (λ b. is_end e.op || b) was.1 ∙ sym now.1)
 
@@ -321,12 +321,12 @@ module _ (x : ExerciseView) (j k : Joint) (e : Entry) (formed : IsWellFormed x) 
       let none = lifeless (λ _ same. away (sym same)) in
       let now = lived (plain_thread acts) in
       let was : Lives c.held.state.own seat.phase =
-      sound.life e.thread seat c acts step.thread (subst (λ (u : ℕ). slice_get j.objects (own_of x.objects u) ≡ Some c) mine.0 here.1) in (
+      sound.life e.thread seat c acts step.happens.thread (subst (λ (u : ℕ). slice_get j.objects (own_of x.objects u) ≡ Some c) mine.0 here.1) in (
         was.0 ∙ sym (now.0 ∙ ap (λ b. b || is_begun seat.phase) none.0) ∙ sym (ap (λ s. is_begun s.phase) mine.1),
         was.1 ∙ sym (now.1 ∙ ap (λ b. b || is_past seat.phase) none.1) ∙ sym (ap (λ s. is_past s.phase) mine.1),
       )
   life_after t r c h (inr mine) (inl here) =
-      let was : Lives spot.held.state.own r.phase = sound.life t r spot h mine.1 (subst (λ (o : ℕ). slice_get j.objects o ≡ Some spot) (sym here.0) step.object) in
+      let was : Lives spot.held.state.own r.phase = sound.life t r spot h mine.1 (subst (λ (o : ℕ). slice_get j.objects o ≡ Some spot) (sym here.0) step.happens.object) in
       let none = lifeless (λ acts same. mine.0 (owns_apart t h (known t r mine.1) acts (here.0 ∙ same))) in (
         ap (λ b. has_begun b.held.state.own) here.1 ∙ noted.begun ∙ ap (λ b. b || has_begun spot.held.state.own) none.0 ∙ was.0,
         ap (λ b. has_ended b.held.state.own) here.1 ∙ noted.ended ∙ ap (λ b. b || has_ended spot.held.state.own) none.1 ∙ was.1,
@@ -350,8 +350,8 @@ module _ (x : ExerciseView) (j k : Joint) (e : Entry) (formed : IsWellFormed x) 
 
   pub IsSoundJoint-step : IsSoundJoint x k
   IsSoundJoint-step = record {
-    object_count = ap length step.objects ∙ length-set j.objects e.object (entered spot e step.state) ∙ sound.object_count;
-    thread_count = ap length step.standings ∙ length-set j.standings e.thread (stepped seat e) ∙ sound.thread_count;
+    object_count = ap length step.happens.objects ∙ length-set j.objects e.object (entered spot e step.happens.state) ∙ sound.object_count;
+    thread_count = ap length step.happens.standings ∙ length-set j.standings e.thread (stepped seat e) ∙ sound.thread_count;
     objects = λ o c h. placed_after o c (spot_of o c h);
     standings = λ t r h. stands_after t r (seat_of t r h);
     pending = λ t o r c h hr hc. pending_after t o r c h (seat_of t r hr) (spot_of o c hc);
@@ -359,24 +359,24 @@ module _ (x : ExerciseView) (j k : Joint) (e : Entry) (formed : IsWellFormed x) 
   }
 
   -- what the event does to the object's calls
-  pub step-moves : Moves step.spot.held e.thread e.op e.reply step.state
+  pub step-moves : Moves step.happens.spot.held e.thread e.op e.reply step.happens.state
   step-moves = moved
 
-  pub step-does : is_main step.standing.phase ≡ false → Does (own_of x.objects e.thread) step.standing.phase step.standing.rest e.object e.op
+  pub step-does : is_main step.happens.standing.phase ≡ false → Does (own_of x.objects e.thread) step.happens.standing.phase step.happens.standing.rest e.object e.op
   step-does = does
 
-  pub step-became : is_main step.standing.phase ≡ false → Becomes e.op e.reply e.object step.standing.rest
+  pub step-became : is_main step.happens.standing.phase ≡ false → Becomes e.op e.reply e.object step.happens.standing.rest
   step-became = became
 
   -- a program thread doesn't stop objects, and `main` does nothing else
-  pub step-after : is_main step.standing.phase ≡ false → is_stop e.op ≡ false
+  pub step-after : is_main step.happens.standing.phase ≡ false → is_stop e.op ≡ false
   step-after = no_stop
 
-  pub step-stops : is_main step.standing.phase ≡ true → e.op ≡ op.Stop
+  pub step-stops : is_main step.happens.standing.phase ≡ true → e.op ≡ op.Stop
   step-stops = stops
 
-  pub step-main : is_main step.standing.phase ≡ true → (step.standing.phase ≡ phase.Main) × (phase_after step.standing.phase e ≡ phase.Main)
+  pub step-main : is_main step.happens.standing.phase ≡ true → (step.happens.standing.phase ≡ phase.Main) × (phase_after step.happens.standing.phase e ≡ phase.Main)
   step-main main = (is_main-phase seat.phase main, phase_after-main seat.phase e main)
 
-  pub step-stands : IsAnswered step.standing.phase step.standing.rest.last × (is_main step.standing.phase ≡ false → phase_after step.standing.phase e ≡ phase_by e.op e.reply e.object)
+  pub step-stands : IsAnswered step.happens.standing.phase step.happens.standing.rest.last × (is_main step.happens.standing.phase ≡ false → phase_after step.happens.standing.phase e ≡ phase_by e.op e.reply e.object)
   step-stands = (stands.answered, by_phase)

@@ -87,10 +87,10 @@ stepped s e = record {
 abbrev pub entered : Place → Entry → State → Place
 entered b e s' = record { held = changed b.held s'; at = e.at; stamp = e.stamp }
 
--- From joint state `j` the event may come next, and leaves `k`: it has the next place of its thread and of
--- its object, its stamp is 1 plus the greater of their last stamps, the thread may do it, and the object's
--- machine answers so.
-pub record JointStep (x : ExerciseView) (j : Joint) (e : Entry) (k : Joint) : Type 0 where
+-- From joint state `j` the event happens, and leaves `k`: it has the next place of its thread and
+-- of its object, its stamp is 1 plus the greater of their last stamps, and the object's machine
+-- answers so.
+pub record Happens (j : Joint) (e : Entry) (k : Joint) : Type 0 where
   pub standing : Standing
   pub thread : slice_get j.standings e.thread ≡ Some standing
   pub spot : Place
@@ -98,11 +98,15 @@ pub record JointStep (x : ExerciseView) (j : Joint) (e : Entry) (k : Joint) : Ty
   pub place : e.place ≡ standing.next
   pub at : e.at ≡ suc spot.at
   pub stamp : e.stamp ≡ suc (max standing.stamp spot.stamp)
-  pub may : May x e.thread standing e.object e.op
   pub state : State
   pub lawful : Lawful spot.held e.thread e.op e.reply state
   pub objects : k.objects ≡ slice_set j.objects e.object (entered spot e state)
   pub standings : k.standings ≡ slice_set j.standings e.thread (stepped standing e)
+
+-- The event happens, and its thread may do it.
+pub record JointStep (x : ExerciseView) (j : Joint) (e : Entry) (k : Joint) : Type 0 where
+  pub happens : Happens j e k
+  pub may : May x e.thread happens.standing e.object e.op
 
 -- The events are a legal joint run of the exercise, which leaves this joint state.
 abbrev pub IsJointRun : ExerciseView → List Entry → Joint → Type 0

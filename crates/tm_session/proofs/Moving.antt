@@ -25,21 +25,8 @@ use Rattle.tm_session.proofs.Reading.{found_at}
 use Rattle.tm_session.proofs.Showing.{bar_of-seat}
 
 -- an event that was made and may be made is a joint step
-abbrev pub performed : (x : ExerciseView) (j k : Joint) (t : ℕ) (w : Wish) (e : Entry) (p : Performs j t w e k) → May x e.thread p.standing e.object e.op → JointStep x j e k
-performed x j k t w e p may = record {
-  standing = p.standing;
-  thread = p.thread;
-  spot = p.spot;
-  object = p.object;
-  place = p.place;
-  at = p.at;
-  stamp = p.stamp;
-  may = may;
-  state = p.state;
-  lawful = p.lawful;
-  objects = p.objects;
-  standings = p.standings;
-}
+abbrev pub performed : (x : ExerciseView) (j k : Joint) (t : ℕ) (w : Wish) (e : Entry) (p : Performs j t w e k) → May x e.thread p.happens.standing e.object e.op → JointStep x j e k
+performed x j k t w e p may = record { happens = p.happens; may = may }
 
 is_main-phase : (p : Phase) → is_main p ≡ true → p ≡ phase.Main
 is_main-phase phase.Main h = refl
@@ -113,16 +100,17 @@ module _ (x : ExerciseView) (j : Joint) (formed : IsWellFormed x) (sound : IsSou
                   absurd (false≢true (sym (ap is_runnable bar') ∙ runnable))
 
       -- and its event is a joint step, within its limit
-      pub chosen-step : (k : Joint) (e : Entry) → Performs j t w e k → (limit : ℕ) → KeepsLimit limit s w.op → (step : JointStep x j e k) × KeepsLimit limit step.standing e.op
+      pub chosen-step : (k : Joint) (e : Entry) → Performs j t w e k → (limit : ℕ) → KeepsLimit limit s w.op → (step : JointStep x j e k) × KeepsLimit limit step.happens.standing e.op
       chosen-step k e p limit keeps =
-          let s' : Some p.standing ≡ Some s = sym p.thread ∙ ap (slice_get j.standings) p.by ∙ seat in
-          let same : p.standing ≡ s = cc in
-          let may' : MayIn (own_of x.objects e.thread) p.standing.phase p.standing.rest e.object e.op =
-          subst (λ (u : ℕ). MayIn (own_of x.objects u) p.standing.phase p.standing.rest e.object e.op) (sym p.by)
+          let old : Standing = p.happens.standing in
+          let s' : Some old ≡ Some s = sym p.happens.thread ∙ ap (slice_get j.standings) p.by ∙ seat in
+          let same : old ≡ s = cc in
+          let may' : MayIn (own_of x.objects e.thread) old.phase old.rest e.object e.op =
+          subst (λ (u : ℕ). MayIn (own_of x.objects u) old.phase old.rest e.object e.op) (sym p.by)
           (subst (λ (u : Standing). MayIn (own_of x.objects t) u.phase u.rest e.object e.op) (sym same)
           (subst (λ (u : ℕ). MayIn (own_of x.objects t) s.phase s.rest u e.op) (sym p.on)
           (subst (λ (u : Op). MayIn (own_of x.objects t) s.phase s.rest w.object u) (sym p.does) may))) in
-          let within : KeepsLimit limit p.standing e.op =
+          let within : KeepsLimit limit old e.op =
           subst (λ (u : Standing). KeepsLimit limit u e.op) (sym same) (subst (λ (u : Op). KeepsLimit limit s u) (sym p.does) keeps) in
           (performed x j k t w e p may', within)
 
@@ -153,7 +141,8 @@ module _ (x : ExerciseView) (j : Joint) (formed : IsWellFormed x) (sound : IsSou
 
   pub halted-step : (k : Joint) (object : ℕ) (e : Entry) → Performs j 0 (record { object = object; op = op.Stop }) e k → JointStep x j e k
   halted-step k object e p =
-      let seat : slice_get j.standings 0 ≡ Some p.standing = sym (ap (slice_get j.standings) p.by) ∙ p.thread in
-      let main : p.standing.phase ≡ phase.Main = is_main-phase p.standing.phase ((sound.standings 0 p.standing seat).main ∙ eq-eqb 0 0 refl) in
+      let old : Standing = p.happens.standing in
+      let seat : slice_get j.standings 0 ≡ Some old = sym (ap (slice_get j.standings) p.by) ∙ p.happens.thread in
+      let main : old.phase ≡ phase.Main = is_main-phase old.phase ((sound.standings 0 old seat).main ∙ eq-eqb 0 0 refl) in
       performed x j k 0 (record { object = object; op = op.Stop }) e p
-      (subst (λ (q : Phase). MayIn (own_of x.objects e.thread) q p.standing.rest e.object e.op) (sym main) p.does)
+      (subst (λ (q : Phase). MayIn (own_of x.objects e.thread) q old.rest e.object e.op) (sym main) p.does)

@@ -49,17 +49,18 @@ names x h t o r s' sound giver threads lawful = tt
 
 module _ (x : ExerciseView) (j k : Joint) (e : Entry) (formed : IsWellFormed x) (sound : IsSoundJoint x j) (step : JointStep x j e k) where
   pub step-object : e.object < length x.objects
-  step-object = omega (arith, slice_get_within j.objects e.object step.spot step.object, sound.object_count)
+  step-object = omega (arith, slice_get_within j.objects e.object step.happens.spot step.happens.object, sound.object_count)
 
   pub step-thread : e.thread ≤ length x.programs
-  step-thread = omega (arith, slice_get_within j.standings e.thread step.standing step.thread, sound.thread_count)
+  step-thread = omega (arith, slice_get_within j.standings e.thread step.happens.standing step.happens.thread, sound.thread_count)
 
   -- a reply that names a thread names a program thread
   pub step-names : NamesThread x e.reply
   step-names =
-      let placed = sound.objects e.object step.spot step.object in
-      let read : IsKindRead step.spot.held.kind = subst IsKindRead (sym placed.kind) (formed.kinds e.object placed.declared placed.found) in
-      names x step.spot.held e.thread e.op e.reply step.state placed.sound (giver step.spot.held.kind read) placed.threads step.lawful
+      let happens = step.happens in
+      let placed = sound.objects e.object happens.spot happens.object in
+      let read : IsKindRead happens.spot.held.kind = subst IsKindRead (sym placed.kind) (formed.kinds e.object placed.declared placed.found) in
+      names x happens.spot.held e.thread e.op e.reply happens.state placed.sound (giver happens.spot.held.kind read) placed.threads happens.lawful
 
 -- the rows of one more event
 pub AreRows-snoc : (x : ExerciseView) (es : List Entry) (e : Entry) (p : Page) (k : Joint) (row : List ℕ) → AreRows x es p → JointStep x p.joint e k

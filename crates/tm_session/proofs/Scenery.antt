@@ -72,19 +72,21 @@ module _ (s : Scene) (t : ℕ) (w : Wish) (can : CanPerform (joint_of s) t w) (b
           by = by;
           on = on;
           does = acts.op;
-          standing = v.standing;
-          thread = ap (slice_get j.standings) by ∙ seat-at s t v seat;
-          spot = place_of b;
-          object = ap (slice_get j.objects) on ∙ book-at s w.object b book;
-          place = acts.place;
-          at = acts.at;
-          stamp = acts.stamp;
-          state = c.machine.state;
-          lawful = acts.lawful;
-          objects = map-slice_set place_of s.books.items w.object c ∙ ap (slice_set j.objects w.object) acts.spot
-              ∙ ap (λ (o : ℕ). slice_set j.objects o (entered (place_of b) e c.machine.state)) (sym on);
-          standings = map-slice_set standing_in s.seats.items t w' ∙ ap (slice_set j.standings t) acts.standing
-              ∙ ap (λ (u : ℕ). slice_set j.standings u (stepped v.standing e)) (sym by);
+          happens = record {
+            standing = v.standing;
+            thread = ap (slice_get j.standings) by ∙ seat-at s t v seat;
+            spot = place_of b;
+            object = ap (slice_get j.objects) on ∙ book-at s w.object b book;
+            place = acts.place;
+            at = acts.at;
+            stamp = acts.stamp;
+            state = c.machine.state;
+            lawful = acts.lawful;
+            objects = map-slice_set place_of s.books.items w.object c ∙ ap (slice_set j.objects w.object) acts.spot
+                ∙ ap (λ (o : ℕ). slice_set j.objects o (entered (place_of b) e c.machine.state)) (sym on);
+            standings = map-slice_set standing_in s.seats.items t w' ∙ ap (slice_set j.standings t) acts.standing
+                ∙ ap (λ (u : ℕ). slice_set j.standings u (stepped v.standing e)) (sym by);
+          };
         }
 
     pub kept-after : (es : List Entry) → HasKept es s → (next : Scene) → next.books.items ≡ slice_set s.books.items w.object c → next.seats.items ≡ slice_set s.seats.items t w' → HasKept (es ++ e ∷ []) next

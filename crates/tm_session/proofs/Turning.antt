@@ -4,7 +4,7 @@ use Rattle.std.proofs.lemmas.Option.{slice_get_within}
 use Rattle.tm_base.specs.declared.events.Entry.{Entry}
 use Rattle.tm_base.specs.Runs.{Leads}
 use Rattle.tm_text.specs.Exercises.{ExerciseView, IsWellFormed}
-use Rattle.tm_replay.specs.Joint.{Joint}
+use Rattle.tm_replay.specs.Joint.{Joint, Place}
 use Rattle.tm_replay.specs.JointSteps.{JointStep, IsJointRun, entered}
 use Rattle.tm_replay.specs.Sound.{IsSoundJoint}
 use Rattle.tm_replay.specs.Work.{IsCounted, work}
@@ -49,7 +49,7 @@ turned x rules p q e formed sound goes = go (due_stops p) (due-waited p.joint p.
       m.step,
       record {
         sound = IsSoundJoint-step x p.joint q.joint e formed sound.sound m.step;
-        last = rw m.last (omega (arith, slice_get_within p.joint.standings e.thread m.step.standing m.step.thread, sound.sound.thread_count));
+        last = rw m.last (omega (arith, slice_get_within p.joint.standings e.thread m.step.happens.standing m.step.happens.thread, sound.sound.thread_count));
         waited = subst (AreWaited q.joint) (sym m.stops) tt;
       },
     )
@@ -58,9 +58,11 @@ turned x rules p q e formed sound goes = go (due_stops p) (due-waited p.joint p.
       record {
         sound = IsSoundJoint-step x p.joint q.joint e formed sound.sound h.step;
         last = rw h.last sound.last;
-        waited = subst (AreWaited q.joint) (sym h.stops)
-            (waited-after p.joint q.joint object (entered h.step.spot e h.step.state)
-            (subst (λ (o : ℕ). q.joint.objects ≡ slice_set p.joint.objects o (entered h.step.spot e h.step.state)) h.object h.step.objects) stops waited.1 waited.2);
+        waited =
+            let left : Place = entered h.step.happens.spot e h.step.happens.state in
+            subst (AreWaited q.joint) (sym h.stops)
+            (waited-after p.joint q.joint object left
+            (subst (λ (o : ℕ). q.joint.objects ≡ slice_set p.joint.objects o left) h.object h.step.happens.objects) stops waited.1 waited.2);
       },
     )
 

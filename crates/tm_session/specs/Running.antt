@@ -54,6 +54,6 @@ pub record MovesOn (x : ExerciseView) (rules : Rules) (old : Run) (e : Entry) (n
   pub step : JointStep x (joint_of old.scene) e (joint_of new.scene)
   pub draw : new.draw ≡ draw_after rules.schedule old.draw
   pub chosen : chosen_thread rules.schedule (bars_of (joint_of old.scene)) old.last new.draw ≡ Some e.thread
-  pub limit : KeepsLimit rules.limit step.standing e.op
+  pub limit : KeepsLimit rules.limit step.happens.standing e.op
   pub stops : new.stops.items ≡ old.stops.items
   pub last : new.last ≡ e.thread

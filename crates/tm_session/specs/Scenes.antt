@@ -1,14 +1,13 @@
 -- The joint state that a session keeps, and one event in it.
-use Rattle.std.specs.Prelude.{◌≡◌, ℕ, suc, ◌^◌, ◌<◌, max, true, List, [], map, Some, slice_get, slice_set}
+use Rattle.std.specs.Prelude.{◌≡◌, ℕ, ◌^◌, ◌<◌, true, List, [], map, Some, slice_get}
 use Rattle.tm_base.specs.declared.events.Entry.{Entry}
 use Rattle.tm_base.specs.Orders.{of_object}
-use Rattle.tm_base.specs.States.{State, is_pending}
-use Rattle.tm_base.specs.Histories.{Lawful}
+use Rattle.tm_base.specs.States.{is_pending}
 use Rattle.tm_book.specs.Books.{BookView}
 use Rattle.tm_replay.specs.declared.phases.Phase.{Phase}
 use Rattle.tm_replay.specs.declared.phases.Phase.TheVariants as phase
 use Rattle.tm_replay.specs.Joint.{Joint, Standing, Place}
-use Rattle.tm_replay.specs.JointSteps.{stepped, entered}
+use Rattle.tm_replay.specs.JointSteps.{Happens}
 use Rattle.tm_replay.specs.Work.{IsCounted}
 use Rattle.tm_session.specs.declared.scenes.Scene.{Scene}
 use Rattle.tm_session.specs.declared.wishes.Wish.{Wish}
@@ -56,22 +55,12 @@ pub record CanPerform (j : Joint) (t : ℕ) (w : Wish) : Type 0 where
   pub object : slice_get j.objects w.object ≡ Some spot
   pub acts : CanAct standing.phase t w.object spot.held w.op
 
--- The thread made the event that it wished: all of a joint step but that the thread may do it.
+-- The thread made the event that it wished; whether it may do it isn't said.
 pub record Performs (j : Joint) (t : ℕ) (w : Wish) (e : Entry) (k : Joint) : Type 0 where
   pub by : e.thread ≡ t
   pub on : e.object ≡ w.object
   pub does : e.op ≡ w.op
-  pub standing : Standing
-  pub thread : slice_get j.standings e.thread ≡ Some standing
-  pub spot : Place
-  pub object : slice_get j.objects e.object ≡ Some spot
-  pub place : e.place ≡ standing.next
-  pub at : e.at ≡ suc spot.at
-  pub stamp : e.stamp ≡ suc (max standing.stamp spot.stamp)
-  pub state : State
-  pub lawful : Lawful spot.held e.thread e.op e.reply state
-  pub objects : k.objects ≡ slice_set j.objects e.object (entered spot e state)
-  pub standings : k.standings ≡ slice_set j.standings e.thread (stepped standing e)
+  pub happens : Happens j e k
 
 -- The call of a thread that waits at the place is pending there.
 pub record IsPendingAt (j : Joint) (t object : ℕ) : Type 0 where

@@ -55,7 +55,7 @@ pub record Moves (x : ExerciseView) (rules : Rules) (p : Turn) (e : Entry) (q : 
   pub step : JointStep x p.joint e q.joint
   pub draw : q.draw ≡ draw_after rules.schedule p.draw
   pub chosen : chosen_thread rules.schedule (bars_of p.joint) p.last q.draw ≡ Some e.thread
-  pub limit : KeepsLimit rules.limit step.standing e.op
+  pub limit : KeepsLimit rules.limit step.happens.standing e.op
   pub stops : q.stops ≡ []
   pub last : q.last ≡ e.thread
 
