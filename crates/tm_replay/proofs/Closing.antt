@@ -34,21 +34,21 @@ module _ (x : ExerciseView) where
     where
       more : e.thread ≡ t → n < e.place
       more same =
-          let found : slice_get j.standings t ≡ Some step.standing = subst (λ (i : ℕ). slice_get j.standings i ≡ Some step.standing) same step.thread in
-          let one : step.standing ≡ past.0 = cc (found, past.1) in
-          let numbers : step.standing.next ≡ past.0.next = ap (λ (s : Standing). s.next) one in
-          omega (arith, step.place, numbers, past.2)
+          let found : slice_get j.standings t ≡ Some step.happens.standing = subst (λ (i : ℕ). slice_get j.standings i ≡ Some step.happens.standing) same step.happens.thread in
+          let one : step.happens.standing ≡ past.0 = cc (found, past.1) in
+          let numbers : step.happens.standing.next ≡ past.0.next = ap (λ (s : Standing). s.next) one in
+          omega (arith, step.happens.place, numbers, past.2)
 
-      at_next : (s : Standing) → n < s.next → slice_get (slice_set j.standings e.thread (stepped step.standing e)) t ≡ Some s → ThreadPast t n k
-      at_next s h found = (s, subst (λ (l : List Standing). slice_get l t ≡ Some s) (sym step.standings) found, h)
+      at_next : (s : Standing) → n < s.next → slice_get (slice_set j.standings e.thread (stepped step.happens.standing e)) t ≡ Some s → ThreadPast t n k
+      at_next s h found = (s, subst (λ (l : List Standing). slice_get l t ≡ Some s) (sym step.happens.standings) found, h)
 
       next : ThreadPast t n k
       next = ⊎_elim
           (λ same.
           let greater = more (sym same.0) in
-          at_next (stepped step.standing e) (omega (arith, greater)) same.1)
+          at_next (stepped step.happens.standing e) (omega (arith, greater)) same.1)
           (λ other. at_next past.0 past.2 other)
-          (slice_get-set_kept j.standings e.thread t (stepped step.standing e) past.0 past.1)
+          (slice_get-set_kept j.standings e.thread t (stepped step.happens.standing e) past.0 past.1)
 
   -- the object has come as far as this place
   abbrev ObjectPast : ℕ → ℕ → Joint → Type 0
@@ -59,38 +59,38 @@ module _ (x : ExerciseView) where
     where
       more : e.object ≡ o → n < e.at
       more same =
-          let found : slice_get j.objects o ≡ Some step.spot = subst (λ (i : ℕ). slice_get j.objects i ≡ Some step.spot) same step.object in
-          let one : step.spot ≡ past.0 = cc (found, past.1) in
-          let numbers : step.spot.at ≡ past.0.at = ap (λ (b : Place). b.at) one in
-          omega (arith, step.at, numbers, past.2)
+          let found : slice_get j.objects o ≡ Some step.happens.spot = subst (λ (i : ℕ). slice_get j.objects i ≡ Some step.happens.spot) same step.happens.object in
+          let one : step.happens.spot ≡ past.0 = cc (found, past.1) in
+          let numbers : step.happens.spot.at ≡ past.0.at = ap (λ (b : Place). b.at) one in
+          omega (arith, step.happens.at, numbers, past.2)
 
-      at_next : (b : Place) → n ≤ b.at → slice_get (slice_set j.objects e.object (entered step.spot e step.state)) o ≡ Some b → ObjectPast o n k
-      at_next b h found = (b, subst (λ (l : List Place). slice_get l o ≡ Some b) (sym step.objects) found, h)
+      at_next : (b : Place) → n ≤ b.at → slice_get (slice_set j.objects e.object (entered step.happens.spot e step.happens.state)) o ≡ Some b → ObjectPast o n k
+      at_next b h found = (b, subst (λ (l : List Place). slice_get l o ≡ Some b) (sym step.happens.objects) found, h)
 
       next : ObjectPast o n k
       next = ⊎_elim
           (λ same.
           let greater = more (sym same.0) in
-          at_next (entered step.spot e step.state) (omega (arith, greater)) same.1)
+          at_next (entered step.happens.spot e step.happens.state) (omega (arith, greater)) same.1)
           (λ other. at_next past.0 past.2 other)
-          (slice_get-set_kept j.objects e.object o (entered step.spot e step.state) past.0 past.1)
+          (slice_get-set_kept j.objects e.object o (entered step.happens.spot e step.happens.state) past.0 past.1)
 
   -- after an event come greater places in its thread, and greater ones in its object
   later-places : (j : Joint) (b : Entry) (k : Joint) → JointStep x j b k → (es : List Entry) (m : Joint) → Leads (JointStep x) k es m
       → (a : Entry) → Contains es a → a.thread ≡ b.thread → b.place < a.place
   later-places j b k step es m run a within same =
-      let s : Standing = stepped step.standing b in
-      let found : slice_get (slice_set j.standings b.thread s) b.thread ≡ Some s = slice_get-set_same j.standings b.thread s (slice_get_within j.standings b.thread step.standing step.thread) in
-      let past : ThreadPast b.thread b.place k = (s, subst (λ (l : List Standing). slice_get l b.thread ≡ Some s) (sym step.standings) found, omega arith) in
+      let s : Standing = stepped step.happens.standing b in
+      let found : slice_get (slice_set j.standings b.thread s) b.thread ≡ Some s = slice_get-set_same j.standings b.thread s (slice_get_within j.standings b.thread step.happens.standing step.happens.thread) in
+      let past : ThreadPast b.thread b.place k = (s, subst (λ (l : List Standing). slice_get l b.thread ≡ Some s) (sym step.happens.standings) found, omega arith) in
       later-more (JointStep x) (ThreadPast b.thread b.place) (λ (e : Entry). e.thread ≡ b.thread) (λ (e : Entry). b.place < e.place)
       (thread-on b.thread b.place) es k m past run a within same
 
   later-ats : (j : Joint) (b : Entry) (k : Joint) → JointStep x j b k → (es : List Entry) (m : Joint) → Leads (JointStep x) k es m
       → (a : Entry) → Contains es a → a.object ≡ b.object → b.at < a.at
   later-ats j b k step es m run a within same =
-      let c : Place = entered step.spot b step.state in
-      let found : slice_get (slice_set j.objects b.object c) b.object ≡ Some c = slice_get-set_same j.objects b.object c (slice_get_within j.objects b.object step.spot step.object) in
-      let past : ObjectPast b.object b.at k = (c, subst (λ (l : List Place). slice_get l b.object ≡ Some c) (sym step.objects) found, omega arith) in
+      let c : Place = entered step.happens.spot b step.happens.state in
+      let found : slice_get (slice_set j.objects b.object c) b.object ≡ Some c = slice_get-set_same j.objects b.object c (slice_get_within j.objects b.object step.happens.spot step.happens.object) in
+      let past : ObjectPast b.object b.at k = (c, subst (λ (l : List Place). slice_get l b.object ≡ Some c) (sym step.happens.objects) found, omega arith) in
       later-more (JointStep x) (ObjectPast b.object b.at) (λ (e : Entry). e.object ≡ b.object) (λ (e : Entry). b.at < e.at)
       (object-on b.object b.at) es k m past run a within same
 
