@@ -19,7 +19,7 @@ use Rattle.tm_replay.specs.Joint.{Joint, Standing, Place}
 use Rattle.tm_replay.specs.JointSteps.{is_call}
 use Rattle.tm_replay.specs.Sound.{is_main, IsSoundJoint, IsPlaced, IsAmong, is_begun, is_past, waits_at}
 use Rattle.tm_replay.proofs.Moves.{Does, begins, ends, calls, resumes, asked-well_formed}
-use Rattle.tm_session.specs.Seats.{waits_in}
+use Rattle.tm_session.specs.Seats.{waits_of}
 use Rattle.tm_session.specs.Acting.{CanAct}
 use Rattle.tm_session.proofs.Seating.{CanAct-step}
 
@@ -98,7 +98,7 @@ module _ (x : ExerciseView) (j : Joint) (formed : IsWellFormed x) (sound : IsSou
     does-acts = go does
       where
         go : Does (own_of x.objects t) s.phase s.rest object o → CanAct s.phase t object b.held o
-        go (begins p e is) = subst (CanAct s.phase t object b.held) (sym is) (CanAct-step s.phase t object b.held op.Begin (ap waits_in p) (ap is_main p) (record {
+        go (begins p e is) = subst (CanAct s.phase t object b.held) (sym is) (CanAct-step s.phase t object b.held op.Begin (ap waits_of p) (ap is_main p) (record {
           program = program;
           known = few;
           free = free (ap (λ q. waits_at q object) p);
@@ -106,7 +106,7 @@ module _ (x : ExerciseView) (j : Joint) (formed : IsWellFormed x) (sound : IsSou
           step = refl;
           in_turn = begin-turn b.held.kind b.held.state.own t placed.sound.own (on_own e) ((life e).0 ∙ ap is_begun p);
         }))
-        go (ends p e cut is) = subst (CanAct s.phase t object b.held) (sym is) (CanAct-step s.phase t object b.held (op.End cut) (ap waits_in p) (ap is_main p) (record {
+        go (ends p e cut is) = subst (CanAct s.phase t object b.held) (sym is) (CanAct-step s.phase t object b.held (op.End cut) (ap waits_of p) (ap is_main p) (record {
           program = program;
           known = few;
           free = free (ap (λ q. waits_at q object) p);
@@ -118,7 +118,7 @@ module _ (x : ExerciseView) (j : Joint) (formed : IsWellFormed x) (sound : IsSou
             let stands = sound.standings t s seat in
             let a = asked-well_formed x formed t stands.done s.rest.left stands.left object o asked in
             let mutex : b.held.kind ≡ kind.Mutex = kind_is a.mutex.0 a.mutex.1 ∙ a.mutex.2 in
-            CanAct-step s.phase t object b.held o (ap waits_in p) (ap is_main p) (record {
+            CanAct-step s.phase t object b.held o (ap waits_of p) (ap is_main p) (record {
               program = program;
               known = few;
               free = free (ap (λ q. waits_at q object) p);

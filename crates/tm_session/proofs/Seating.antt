@@ -17,19 +17,19 @@ use Rattle.tm_replay.specs.declared.phases.Phase.{Phase}
 use Rattle.tm_replay.specs.declared.phases.Phase.TheVariants as phase
 use Rattle.tm_replay.specs.JointSteps.{phase_after, phase_by}
 use Rattle.tm_replay.specs.Sound.{is_main}
-use Rattle.tm_session.specs.Seats.{waits_in}
+use Rattle.tm_session.specs.Seats.{waits_of}
 use Rattle.tm_session.specs.Acting.{CanAct, CanEnter}
 
 -- a call in turn can be made
-pub CanAct-step : (p : Phase) (t object : ℕ) (h : Held) (o : Op) → waits_in p ≡ None → is_main p ≡ false → CanStep h t o → CanAct p t object h o
+pub CanAct-step : (p : Phase) (t object : ℕ) (h : Held) (o : Op) → waits_of p ≡ None → is_main p ≡ false → CanStep h t o → CanAct p t object h o
 CanAct-step p t object h op.Resume free program may = absurd (let e : false ≡ true = may.step in cc)
 CanAct-step p t object h op.Stop free program may = absurd (let e : false ≡ true = may.step in cc)
 CanAct-step p t object h o free program may = (free, program, may)
 
 -- what a thread can do its book can note, where its ticket waits as its phase does
-pub can_enter : (b : BookView) (p : Progress) (q : Phase) (t : ℕ) (o : Op) → p.waits ≡ waits_in q → p.thread ≡ t → CanAct q t b.object b.machine o → CanEnter b p o
+pub can_enter : (b : BookView) (p : Progress) (q : Phase) (t : ℕ) (o : Op) → p.waits ≡ waits_of q → p.thread ≡ t → CanAct q t b.object b.machine o → CanEnter b p o
 can_enter b p q t op.Resume waits same can = (
-  waits ∙ ap waits_in can.0,
+  waits ∙ ap waits_of can.0,
   ap (is_pending b.machine.state) same ∙ can.1,
   ap (is_waiting b.machine.state) same ∙ can.2,
 )
@@ -46,7 +46,7 @@ waits_after-plain : (object : ℕ) (r : Reply) → is_wait r ≡ false → waits
 waits_after-plain object reply.Wait plain = absurd cc
 waits_after-plain object r plain = refl
 
-waits-by : (o : Op) (r : Reply) (object : ℕ) → (is_end o ≡ true → is_wait r ≡ false) → waits_after object r ≡ waits_in (phase_by o r object)
+waits-by : (o : Op) (r : Reply) (object : ℕ) → (is_end o ≡ true → is_wait r ≡ false) → waits_after object r ≡ waits_of (phase_by o r object)
 waits-by (op.End cut) r object plain = waits_after-plain object r (plain refl)
 waits-by o reply.Wait object plain = refl
 waits-by o r object plain = refl
@@ -57,7 +57,7 @@ end-plain h t o r s' lawful end = absurd cc
 
 -- after its event the ticket waits as the phase does
 pub waits-kept : (p : Phase) (t object : ℕ) (h : Held) (e : Entry) (s' : State) → CanAct p t object h e.op → Lawful h e.thread e.op e.reply s'
-    → waits_after e.object e.reply ≡ waits_in (phase_after p e)
+    → waits_after e.object e.reply ≡ waits_of (phase_after p e)
 waits-kept phase.Main t object h e s' can lawful = waits_after-plain e.object e.reply (main-plain t object h e.op e.thread e.reply s' can lawful)
 waits-kept phase.NotBegun t object h e s' can lawful = waits-by e.op e.reply e.object (end-plain h e.thread e.op e.reply s' lawful)
 waits-kept phase.Free t object h e s' can lawful = waits-by e.op e.reply e.object (end-plain h e.thread e.op e.reply s' lawful)

@@ -13,7 +13,7 @@ use Rattle.tm_replay.specs.declared.phases.Phase.TheVariants as phase
 use Rattle.tm_replay.specs.Joint.{Place}
 use Rattle.tm_replay.specs.JointSteps.{stepped, entered}
 use Rattle.tm_replay.specs.Sound.{is_main}
-use Rattle.tm_session.specs.Seats.{SeatView, waits_in}
+use Rattle.tm_session.specs.Seats.{SeatView, waits_of}
 
 -- The object whose book this is, as a joint state has it.
 abbrev pub place_of : BookView → Place
@@ -37,7 +37,7 @@ pub record IsNoted (old : BookView) (before : Progress) (o : Op) (e : Entry) (ne
 abbrev pub CanAct : Phase → ℕ → ℕ → Held → Op → Type 0
 CanAct p t object h op.Resume = (p ≡ phase.Waits object) × (is_pending h.state t ≡ true) × (is_waiting h.state t ≡ false)
 CanAct p t object h op.Stop = (p ≡ phase.Main) × (t ≡ 0) × (h.state.stopped ≡ false)
-CanAct p t object h o = (waits_in p ≡ None) × (is_main p ≡ false) × CanStep h t o
+CanAct p t object h o = (waits_of p ≡ None) × (is_main p ≡ false) × CanStep h t o
 
 -- The seat's thread made the event in the book: it has the thread's number and the place of its next event;
 -- it is of the book's object, and has the operation; its place in the object is one more than the last; its

@@ -23,7 +23,8 @@ AreWaited j [] = Unit {0}
 AreWaited j (o ∷ os) = (has_waiter (slice_get j.objects o) ≡ true) × AllByRecursion (λ p. o < p) os × AreWaited j os
 
 -- The run is under way: its exercise is well formed, its joint state is sound and early, the thread that
--- moved last is one of the exercise's, and the objects that are still to be stopped have waiters.
+-- moved last is one of the exercise's, the objects that are still to be stopped have waiters, and the books
+-- have kept the events.
 pub record IsRunning (x : ExerciseView) (run : Run) : Type 0 where
   pub formed : IsWellFormed x
   pub sound : IsSoundJoint x (joint_of run.scene)
@@ -32,7 +33,7 @@ pub record IsRunning (x : ExerciseView) (run : Run) : Type 0 where
   pub waited : AreWaited (joint_of run.scene) run.stops.items
   pub kept : HasKeptAll run.scene
 
--- `main` can stop the object: it has a waiter.
+-- `main` can stop the object, which has a waiter, in a run that is under way.
 pub record HaltsAt (x : ExerciseView) (run : Run) (object : ℕ) : Type 0 where
   pub formed : IsWellFormed x
   pub sound : IsSoundJoint x (joint_of run.scene)

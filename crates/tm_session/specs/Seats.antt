@@ -26,9 +26,9 @@ abbrev pub seat_of : ℕ → Standing → SeatView
 seat_of t s = record { thread = t; standing = s }
 
 -- The object at which a thread in this phase waits.
-abbrev pub waits_in : Phase → Option ℕ
-waits_in (phase.Waits object) = Some object
-waits_in p = None
+abbrev pub waits_of : Phase → Option ℕ
+waits_of (phase.Waits object) = Some object
+waits_of p = None
 
 -- Where the thread may make calls it ends cut only after the reply `stopped`; where it may not it makes none.
 abbrev pub IsWithin : Bool → Option Reply → Op → Type 0

@@ -1,7 +1,7 @@
 -- How a seat is stored: by the thread's ticket, and by what it doesn't tell.
 use Rattle.std.specs.Prelude.{◌≡◌}
 use Rattle.tm_session.specs.declared.seats.Seat.TheInside.{Inside}
-use Rattle.tm_session.specs.Seats.{SeatView, waits_in}
+use Rattle.tm_session.specs.Seats.{SeatView, waits_of}
 
 abbrev pub seat_view : Inside → SeatView
 seat_view s = record {
@@ -11,4 +11,4 @@ seat_view s = record {
 
 -- The ticket waits where the phase does.
 pub record KeepsSeat (s : Inside) : Type 0 where
-  pub waits : s.ticket.waits ≡ waits_in s.phase
+  pub waits : s.ticket.waits ≡ waits_of s.phase

@@ -99,8 +99,7 @@ impl Seat {
         }
     }
 
-    /// Makes the thread's event in the book. Only want of memory refuses it, and leaves the seat as it
-    /// was.
+    /// Makes the thread's event in the book. Only want of memory refuses it.
     pub fn act(&mut self, book: &mut Book, op: Op) -> Result<Entry, NoMemory>
         requires may { CanAct self.old.standing.phase self.old.thread book.old.object book.old.machine op }
         requires next { self.old.standing.next < 2 ^ 62 }

@@ -1,7 +1,7 @@
 use Rattle.std.proofs.Common.{◌≡◌, ap, sym, ◌∙◌, subst}
 use Rattle.tm_base.specs.declared.operations.Op.{Op}
 use Rattle.tm_replay.specs.declared.phases.Phase.{Phase}
-use Rattle.tm_session.specs.Seats.{waits_in}
+use Rattle.tm_session.specs.Seats.{waits_of}
 use Rattle.tm_session.specs.Acting.{CanAct}
 use Rattle.tm_session.proofs.Seating.{waits-kept}
 use Rattle.tm_session.proofs.seats.Seat.act.Goals as goal
@@ -17,5 +17,5 @@ invariant_of-self-2 c =
     subst (λ (p : Phase). CanAct p v.thread b.object b.machine e.op) (sym phase)
     (subst (λ (o : Op). CanAct v.standing.phase v.thread b.object b.machine o) (sym m.op) c.requires.may) in
     record {
-      waits = ap (λ p. p.waits) m.ticket ∙ waits-kept c.self.inside.phase v.thread b.object b.machine e c.enter.new.book.machine.state can m.lawful ∙ sym (ap waits_in c.phase_after-self-inside.ensures);
+      waits = ap (λ p. p.waits) m.ticket ∙ waits-kept c.self.inside.phase v.thread b.object b.machine e c.enter.new.book.machine.state can m.lawful ∙ sym (ap waits_of c.phase_after-self-inside.ensures);
     }
