@@ -18,3 +18,9 @@ PendingMoves = (l : Label) (es : List Entry) (p : Point) (e : Entry) (q : Point)
 -- A history leaves one state at most: the replies that it holds fix it.
 abbrev pub HistoryLeavesOneState : Type 0
 HistoryLeavesOneState = (l : Label) (es : List Entry) (p q : Point) → IsHistory l es p → IsHistory l es q → p ≡ q
+
+-- In the state that a legal history leaves a thread's operation has one reply at most: any two
+-- events that may come next, of one thread with one operation, have the same.
+abbrev pub AnswersAreFixed : Type 0
+AnswersAreFixed = (l : Label) (es : List Entry) (p : Point) (d e : Entry) (q r : Point)
+    → IsHistory l es p → Follows l p d q → Follows l p e r → d.thread ≡ e.thread → d.op ≡ e.op → d.reply ≡ e.reply

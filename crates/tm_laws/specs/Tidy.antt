@@ -25,7 +25,8 @@ IsOwnOf (kind.Var start) (VarOwn value) = Unit {0}
 IsOwnOf k own = ⊥
 
 -- There is a place for each thread's granted reply; who waits or was granted is a program thread, and
--- does it once; a granted reply is one that a call can be granted, and doesn't say that it waits; and where the object was stopped nobody waits.
+-- does it once; a granted reply is one that a call can be granted, and doesn't say that it waits; and
+-- where the object was stopped nobody waits.
 pub record IsTidy (threads : ℕ) (s : State) : Type 0 where
   pub long : length s.granted ≡ threads + 1
   pub known : (x : ℕ) → 1 ≤ times s x → (1 ≤ x) × (x ≤ threads)

@@ -4,7 +4,7 @@
 
 ghost use Rattle.tm_laws.specs.Owed.{OwedMoves};
 ghost use Rattle.tm_laws.specs.Waiters.{WaitersAreThreads};
-ghost use Rattle.tm_laws.specs.Laws.{HistoriesAreTidy, HistoryLeavesOneState, PendingMoves};
+ghost use Rattle.tm_laws.specs.Laws.{AnswersAreFixed, HistoriesAreTidy, HistoryLeavesOneState, PendingMoves};
 
 /// In every state of a legal history no thread waits twice, only program threads wait, no granted reply
 /// says that the call waits, and nobody waits at a stopped object.
@@ -20,6 +20,12 @@ pub fn pending_moves()
 /// A legal history leaves one state at most: the events that it holds, with their replies, fix it.
 pub fn history_leaves_one_state()
     ensures { HistoryLeavesOneState }
+{}
+
+/// No kind leaves a reply open: in the state that a legal history leaves, a thread's operation has
+/// one reply at most.
+pub fn answers_are_fixed()
+    ensures { AnswersAreFixed }
 {}
 
 /// What an object owes: an event pays the owed ones that it makes, and owes one more exactly if its call

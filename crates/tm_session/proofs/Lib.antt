@@ -15,3 +15,6 @@ pub mod Turning
 pub mod Rowing
 pub mod Ending
 pub mod Shelving
+pub mod Alike
+pub mod Resting
+pub mod Oneness

@@ -10,3 +10,4 @@ pub mod Running
 pub mod Sessions
 pub mod Shelves
 pub mod Cuts
+pub mod Oneness

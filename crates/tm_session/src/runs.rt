@@ -3,6 +3,7 @@ ghost use Rattle.tm_outside.specs.Appending.{AppendsPrefix};
 ghost use Rattle.tm_replay.specs.Joint.{Joint};
 ghost use Rattle.tm_replay.specs.Closing.{FrontsAreClosed};
 ghost use Rattle.tm_replay.specs.JointSteps.{IsJointRun};
+ghost use Rattle.tm_session.specs.Oneness.{OneAloneRun};
 ghost use Rattle.tm_session.specs.Shelves.{AreBooksOf};
 ghost use Rattle.tm_session.specs.Pages.{IsAloneText, BeginsAloneText};
 ghost use Rattle.tm_session.specs.Sending.{IsSent};
@@ -63,3 +64,9 @@ pub fn alone<K: Sink>(
     }
     session.finish(alloc, exercise, sink)
 }
+
+/// A well-formed exercise has one whole alone run at most under a schedule and a limit: two runs
+/// with the same rules have the same events in the same order, and leave the same state.
+pub fn exercises_have_one_alone_run()
+    ensures { OneAloneRun }
+{}

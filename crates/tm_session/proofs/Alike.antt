@@ -1,0 +1,78 @@
+-- Thread, object and operation fix the event that happens, and the joint state after it.
+use Rattle.std.proofs.Common.{◌≡◌, ℕ, suc, max, List, Some, slice_get, slice_set, ap, sym, ◌∙◌, subst}
+use Rattle.tm_base.specs.declared.operations.Op.{Op}
+use Rattle.tm_base.specs.declared.replies.Reply.{Reply}
+use Rattle.tm_base.specs.declared.events.Entry.{Entry}
+use Rattle.tm_base.specs.States.{State}
+use Rattle.tm_base.specs.Histories.{Lawful}
+use Rattle.tm_laws.proofs.Determined.{Lawful-one, Lawful-reply}
+use Rattle.tm_replay.specs.Joint.{Joint, Standing, Place}
+use Rattle.tm_replay.specs.JointSteps.{Happens, entered, stepped}
+use Rattle.tm_session.specs.Turns.{Turn}
+
+-- records are the same where their fields are
+entry-alike : (d e : Entry) → d.thread ≡ e.thread → d.place ≡ e.place → d.object ≡ e.object → d.at ≡ e.at
+    → d.stamp ≡ e.stamp → d.op ≡ e.op → d.reply ≡ e.reply → d ≡ e
+entry-alike d e thread place object at stamp does reply =
+    ap (λ n. made n d.place d.object d.at d.stamp d.op d.reply) thread
+    ∙ ap (λ n. made e.thread n d.object d.at d.stamp d.op d.reply) place
+    ∙ ap (λ n. made e.thread e.place n d.at d.stamp d.op d.reply) object
+    ∙ ap (λ n. made e.thread e.place e.object n d.stamp d.op d.reply) at
+    ∙ ap (λ n. made e.thread e.place e.object e.at n d.op d.reply) stamp
+    ∙ ap (λ o. made e.thread e.place e.object e.at e.stamp o d.reply) does
+    ∙ ap (made e.thread e.place e.object e.at e.stamp e.op) reply
+  where
+    made : ℕ → ℕ → ℕ → ℕ → ℕ → Op → Reply → Entry
+    made thread place object at stamp o r = record { thread = thread; place = place; object = object; at = at; stamp = stamp; op = o; reply = r }
+
+joint-alike : (j k : Joint) → j.objects ≡ k.objects → j.standings ≡ k.standings → j ≡ k
+joint-alike j k objects standings =
+    ap (λ (l : List Place). made l j.standings) objects ∙ ap (made k.objects) standings
+  where
+    made : List Place → List Standing → Joint
+    made objects standings = record { objects = objects; standings = standings }
+
+pub turn-alike : (p q : Turn) → p.joint ≡ q.joint → p.last ≡ q.last → p.draw ≡ q.draw → p.stops ≡ q.stops → p ≡ q
+turn-alike p q joint last draw stops =
+    ap (λ j. made j p.last p.draw p.stops) joint
+    ∙ ap (λ n. made q.joint n p.draw p.stops) last
+    ∙ ap (λ n. made q.joint q.last n p.stops) draw
+    ∙ ap (made q.joint q.last q.draw) stops
+  where
+    made : Joint → ℕ → ℕ → List ℕ → Turn
+    made joint last draw stops = record { joint = joint; last = last; draw = draw; stops = stops }
+
+-- one thread stands at one place
+pub same-standing : (j k m : Joint) (e f : Entry) (x : Happens j e k) (y : Happens j f m) → e.thread ≡ f.thread → x.standing ≡ y.standing
+same-standing j k m e f x y thread =
+    let found : Some x.standing ≡ Some y.standing = sym x.thread ∙ ap (slice_get j.standings) thread ∙ y.thread in cc
+
+same-spot : (j k m : Joint) (e f : Entry) (x : Happens j e k) (y : Happens j f m) → e.object ≡ f.object → x.spot ≡ y.spot
+same-spot j k m e f x y object =
+    let found : Some x.spot ≡ Some y.spot = sym x.object ∙ ap (slice_get j.objects) object ∙ y.object in cc
+
+pub Happens-one : (j k m : Joint) (e f : Entry) → Happens j e k → Happens j f m
+    → e.thread ≡ f.thread → e.object ≡ f.object → e.op ≡ f.op → (e ≡ f) × (k ≡ m)
+Happens-one j k m e f x y thread object does =
+    let seat : x.standing ≡ y.standing = same-standing j k m e f x y thread in
+    let spot : x.spot ≡ y.spot = same-spot j k m e f x y object in
+    let by : Lawful y.spot.held f.thread f.op e.reply x.state =
+    subst (λ (o : Op). Lawful y.spot.held f.thread o e.reply x.state) does
+    (subst (λ (t : ℕ). Lawful y.spot.held t e.op e.reply x.state) thread
+    (subst (λ (b : Place). Lawful b.held e.thread e.op e.reply x.state) spot x.lawful)) in
+    let reply : e.reply ≡ f.reply = Lawful-reply y.spot.held f.thread f.op e.reply f.reply x.state y.state by y.lawful in
+    let state : x.state ≡ y.state = Lawful-one y.spot.held f.thread f.op f.reply x.state y.state
+    (subst (λ (r : Reply). Lawful y.spot.held f.thread f.op r x.state) reply by) y.lawful in
+    let place : e.place ≡ f.place = x.place ∙ ap (λ (s : Standing). s.next) seat ∙ sym y.place in
+    let at : e.at ≡ f.at = x.at ∙ ap (λ (b : Place). suc b.at) spot ∙ sym y.at in
+    let stamp : e.stamp ≡ f.stamp = x.stamp ∙ ap (λ (s : Standing). suc (max s.stamp x.spot.stamp)) seat
+    ∙ ap (λ (b : Place). suc (max y.standing.stamp b.stamp)) spot ∙ sym y.stamp in
+    let event : e ≡ f = entry-alike e f thread place object at stamp does reply in
+    let objects : k.objects ≡ m.objects = x.objects
+    ∙ ap (λ (d : Entry). slice_set j.objects d.object (entered x.spot d x.state)) event
+    ∙ ap (λ (b : Place). slice_set j.objects f.object (entered b f x.state)) spot
+    ∙ ap (λ (s : State). slice_set j.objects f.object (entered y.spot f s)) state ∙ sym y.objects in
+    let standings : k.standings ≡ m.standings = x.standings
+    ∙ ap (λ (d : Entry). slice_set j.standings d.thread (stepped x.standing d)) event
+    ∙ ap (λ (s : Standing). slice_set j.standings f.thread (stepped s f)) seat ∙ sym y.standings in
+    (event, joint-alike k m objects standings)
