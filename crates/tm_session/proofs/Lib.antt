@@ -18,3 +18,4 @@ pub mod Shelving
 pub mod Alike
 pub mod Resting
 pub mod Oneness
+pub mod OneText

@@ -13,4 +13,4 @@ mod turns;
 mod wishes;
 
 pub use rules::Rules;
-pub use runs::{Finished, alone, exercises_have_one_alone_run};
+pub use runs::{Finished, alone, exercises_have_one_alone_run, exercises_have_one_alone_text};

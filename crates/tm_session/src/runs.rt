@@ -3,7 +3,7 @@ ghost use Rattle.tm_outside.specs.Appending.{AppendsPrefix};
 ghost use Rattle.tm_replay.specs.Joint.{Joint};
 ghost use Rattle.tm_replay.specs.Closing.{FrontsAreClosed};
 ghost use Rattle.tm_replay.specs.JointSteps.{IsJointRun};
-ghost use Rattle.tm_session.specs.Oneness.{OneAloneRun};
+ghost use Rattle.tm_session.specs.Oneness.{OneAloneRun, OneAloneText};
 ghost use Rattle.tm_session.specs.Shelves.{AreBooksOf};
 ghost use Rattle.tm_session.specs.Pages.{IsAloneText, BeginsAloneText};
 ghost use Rattle.tm_session.specs.Sending.{IsSent};
@@ -69,4 +69,10 @@ pub fn alone<K: Sink>(
 /// with the same rules have the same events in the same order, and leave the same state.
 pub fn exercises_have_one_alone_run()
     ensures { OneAloneRun }
+{}
+
+/// So it has one text at most: two texts of its alone run have the same events, end in the same way,
+/// name the same threads, and are the same bytes.
+pub fn exercises_have_one_alone_text()
+    ensures { OneAloneText }
 {}
