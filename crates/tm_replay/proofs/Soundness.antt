@@ -1,6 +1,6 @@
 -- A joint step leads from a sound joint state to a sound one.
 use Rattle.std.proofs.Common.{◌≡◌, ◌≢◌, ℕ, ◌+◌, ◌<◌, ◌≤◌, Bool, true, false, ◌||◌, ◌==◌, ◌⊎◌, inl, inr, ⊎_elim, if◌then◌else◌, List, drop, length, Option, Some, None, IsSome, slice_get, refl, ap, sym, ◌∙◌, subst, arith, eq-eqb, ne_eqb, length-set}
-use Rattle.std.proofs.lemmas.Bool.{cases_eq, false≢true}
+use Rattle.std.proofs.lemmas.Bool.{cases_Bool, cases_eq, false≢true}
 use Rattle.std.proofs.lemmas.List.{drop-drop}
 use Rattle.std.proofs.lemmas.Option.{slice_get_within}
 use Rattle.tm_base.specs.declared.operations.Op.{Op}
@@ -37,16 +37,13 @@ phase_after-main phase.Free e h = absurd cc
 phase_after-main (phase.Waits o) e h = absurd cc
 phase_after-main (phase.Ended cut) e h = absurd cc
 
-is_main-phase : (p : Phase) → is_main p ≡ true → p ≡ phase.Main
+-- only `main` is in the phase of main
+pub is_main-phase : (p : Phase) → is_main p ≡ true → p ≡ phase.Main
 is_main-phase phase.Main h = refl
 is_main-phase phase.NotBegun h = absurd cc
 is_main-phase phase.Free h = absurd cc
 is_main-phase (phase.Waits o) h = absurd cc
 is_main-phase (phase.Ended cut) h = absurd cc
-
-bool_cases : (b : Bool) → (b ≡ true) ⊎ (b ≡ false)
-bool_cases true = inl refl
-bool_cases false = inr refl
 
 -- where the left part is the end of a program, it still is after an answer
 answered-left : (program : List _) (rest : Rest) (r : Reply) → (done : ℕ) → rest.left ≡ drop done program → (more : ℕ) × ((answered rest r).left ≡ drop more program)
@@ -108,7 +105,7 @@ module _ (x : ExerciseView) (j k : Joint) (e : Entry) (formed : IsWellFormed x) 
 
   -- the thread goes on with its program
   still : IsStanding x e.thread (stepped seat e)
-  still = ⊎_elim main_case plain_case (bool_cases (is_main seat.phase))
+  still = ⊎_elim main_case plain_case (cases_Bool (is_main seat.phase))
     where
       main_case : is_main seat.phase ≡ true → IsStanding x e.thread (stepped seat e)
       main_case main =
@@ -291,7 +288,7 @@ module _ (x : ExerciseView) (j k : Joint) (e : Entry) (formed : IsWellFormed x) 
 
   -- the event begins and ends no thread's life where it is made on an object that isn't the thread's own
   lifeless : (1 ≤ e.thread → e.object ≢ own_of x.objects e.thread) → (is_begin e.op ≡ false) × (is_end e.op ≡ false)
-  lifeless away = ⊎_elim main_case plain_case (bool_cases (is_main seat.phase))
+  lifeless away = ⊎_elim main_case plain_case (cases_Bool (is_main seat.phase))
     where
       main_case : is_main seat.phase ≡ true → (is_begin e.op ≡ false) × (is_end e.op ≡ false)
       main_case main = (ap is_begin (stops main), ap is_end (stops main))
@@ -303,8 +300,8 @@ module _ (x : ExerciseView) (j k : Joint) (e : Entry) (formed : IsWellFormed x) 
 
       plain_case : is_main seat.phase ≡ false → (is_begin e.op ≡ false) × (is_end e.op ≡ false)
       plain_case plain = (
-        ⊎_elim (λ (y : is_begin e.op ≡ true). absurd (away (acting plain) (own_only plain (inl y)))) (λ (n : is_begin e.op ≡ false). n) (bool_cases (is_begin e.op)),
-        ⊎_elim (λ (y : is_end e.op ≡ true). absurd (away (acting plain) (own_only plain (inr y)))) (λ (n : is_end e.op ≡ false). n) (bool_cases (is_end e.op)),
+        ⊎_elim (λ (y : is_begin e.op ≡ true). absurd (away (acting plain) (own_only plain (inl y)))) (λ (n : is_begin e.op ≡ false). n) (cases_Bool (is_begin e.op)),
+        ⊎_elim (λ (y : is_end e.op ≡ true). absurd (away (acting plain) (own_only plain (inr y)))) (λ (n : is_end e.op ≡ false). n) (cases_Bool (is_end e.op)),
       )
 
   life_after : (t : ℕ) (r : Standing) (c : Place) → 1 ≤ t → TheSeat t r → TheSpot (own_of x.objects t) c → Lives c.held.state.own r.phase

@@ -13,6 +13,7 @@ use Rattle.tm_replay.specs.Joint.{Joint, Standing, Place}
 use Rattle.tm_replay.specs.JointSteps.{JointStep, May, MayIn}
 use Rattle.tm_replay.specs.Bars.{bar_of, bar_in, bars_of, is_runnable, waits_in, is_some_queued, has_waiter}
 use Rattle.tm_replay.specs.Sound.{IsSoundJoint, is_main}
+use Rattle.tm_replay.proofs.Soundness.{is_main-phase}
 use Rattle.tm_replay.proofs.Moves.{Does, may-does, asked-well_formed}
 use Rattle.tm_session.specs.declared.wishes.Wish.{Wish}
 use Rattle.tm_session.specs.Seats.{GoesOn, AsksCalls}
@@ -27,13 +28,6 @@ use Rattle.tm_session.proofs.Showing.{bar_of-seat}
 -- an event that was made and may be made is a joint step
 abbrev pub performed : (x : ExerciseView) (j k : Joint) (t : ℕ) (w : Wish) (e : Entry) (p : Performs j t w e k) → May x e.thread p.happens.standing e.object e.op → JointStep x j e k
 performed x j k t w e p may = record { happens = p.happens; may = may }
-
-is_main-phase : (p : Phase) → is_main p ≡ true → p ≡ phase.Main
-is_main-phase phase.Main h = refl
-is_main-phase phase.NotBegun h = absurd cc
-is_main-phase phase.Free h = absurd cc
-is_main-phase (phase.Waits o) h = absurd cc
-is_main-phase (phase.Ended cut) h = absurd cc
 
 module _ (x : ExerciseView) (j : Joint) (formed : IsWellFormed x) (sound : IsSoundJoint x j) where
   -- a thread that was chosen

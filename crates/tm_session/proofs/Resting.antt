@@ -1,6 +1,5 @@
 -- Where every thread has ended nothing goes on.
-use Rattle.std.proofs.Common.{◌≡◌, ℕ, zero, suc, ◌≤◌, ◌<◌, Bool, true, false, ◌&&◌, if◌then◌else◌, List, [], ◌∷◌, length, Option, Some, None, slice_get, refl, ap, sym, ◌∙◌, arith, eq-eqb}
-use Rattle.std.specs.List.{list_all}
+use Rattle.std.proofs.Common.{◌≡◌, ℕ, zero, suc, ◌≤◌, ◌<◌, Bool, true, false, if◌then◌else◌, List, [], ◌∷◌, length, Option, Some, None, slice_get, refl, ap, sym, ◌∙◌, arith, eq-eqb}
 use Rattle.std.proofs.lemmas.Bool.{false≢true}
 use Rattle.tm_base.specs.declared.outcomes.Bar.{Bar}
 use Rattle.tm_base.specs.declared.outcomes.Bar.TheVariants as bar
@@ -19,17 +18,8 @@ use Rattle.tm_session.specs.Turns.{Turn, Goes, GoesBy, due_stops}
 use Rattle.tm_session.proofs.Choosing.{bar-at, chosen-runs, runs-known}
 use Rattle.tm_session.proofs.Reading.{found_at}
 use Rattle.tm_session.proofs.Showing.{bar_of-seat}
-use Rattle.tm_session.proofs.Stopping.{due-waited}
+use Rattle.tm_session.proofs.Stopping.{all-pass, due-waited}
 use Rattle.tm_session.proofs.Turning.{IsSoundTurn}
-
-both : (a b : Bool) → (a && b) ≡ true → (a ≡ true) × (b ≡ true)
-both true b h = (refl, h)
-both false b h = absurd (false≢true h)
-
-all-at : (p : Bar → Bool) (bars : List Bar) → list_all p bars ≡ true → (i : ℕ) (b : Bar) → slice_get bars i ≡ Some b → p b ≡ true
-all-at p [] h i b at = absurd cc
-all-at p (c ∷ bars) h zero b at = let same : c ≡ b = cc in ap p (sym same) ∙ (both (p c) (list_all p bars) h).0
-all-at p (c ∷ bars) h (suc i) b at = all-at p bars (both (p c) (list_all p bars) h).1 i b at
 
 ended-still : (b : Bar) → is_ended b ≡ true → is_runnable b ≡ false
 ended-still bar.Ended h = refl
@@ -38,7 +28,7 @@ ended-still b h = absurd cc
 module _ (j : Joint) (over : is_over (bars_of j) ≡ true) where
   over-ended : (t : ℕ) → 1 ≤ t → t < length j.standings → is_ended (bar_of j t) ≡ true
   over-ended zero low high = absurd (omega (arith, low))
-  over-ended (suc t) low high = all-at is_ended (bars_of j) over t (bar_of j (suc t)) (bar-at j t (omega (arith, high)))
+  over-ended (suc t) low high = all-pass is_ended (bars_of j) over t (bar_of j (suc t)) (bar-at j t (omega (arith, high)))
 
   -- no thread is chosen
   none-chosen : (t : ℕ) → 1 ≤ t → t < length j.standings → is_runnable (bar_of j t) ≡ true → ⊥

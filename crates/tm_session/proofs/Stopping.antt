@@ -71,7 +71,7 @@ some-fails p (b ∷ bars) h = go (p b) refl h (some-fails p bars)
     go true e h later =
         let more = later (sym (ap (λ t. t && list_all p bars) e) ∙ h) in (suc more.0, more.1, more.2, more.3)
 
-all-pass : (p : Bar → Bool) (bars : List Bar) → list_all p bars ≡ true → (i : ℕ) (b : Bar) → slice_get bars i ≡ Some b → p b ≡ true
+pub all-pass : (p : Bar → Bool) (bars : List Bar) → list_all p bars ≡ true → (i : ℕ) (b : Bar) → slice_get bars i ≡ Some b → p b ≡ true
 all-pass p [] h i b at = absurd cc
 all-pass p (c ∷ bars) h i b at = go (p c) refl h (λ more k there. all-pass p bars more k b there) i at
   where

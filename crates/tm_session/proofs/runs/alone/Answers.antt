@@ -8,7 +8,11 @@ use Rattle.tm_replay.specs.JointSteps.{IsJointRun}
 use Rattle.tm_replay.proofs.Closing.{prefixes-are_closed}
 use Rattle.tm_book.specs.Books.{BookView}
 use Rattle.tm_text.specs.Exercises.{ExerciseView}
+use Rattle.tm_session.specs.declared.rules.Rules.{Rules}
+use Rattle.tm_session.specs.declared.sessions.Session.{Session}
 use Rattle.tm_session.specs.declared.runs.Finished.{Finished}
+use Rattle.tm_session.specs.Pages.{BeginsAloneText}
+use Rattle.tm_session.specs.Sessions.{IsUnderWay, HasSent}
 use Rattle.tm_session.specs.Shelves.{AreBooksOf}
 use Rattle.tm_session.specs.Scenes.{joint_of}
 use Rattle.tm_session.specs.Turns.{rules_of}
@@ -26,6 +30,17 @@ if_ok_both : {E : Type 0} {x : ExerciseView} (r : Result Finished E) (es : List 
 if_ok_both (Ok f) es bs shown books p = rw shown (rw books p)
 if_ok_both (Err e) es bs shown books p = tt
 
+-- the events so far are a legal run of all objects together
+legal-so_far : (x : ExerciseView) (rules : Rules) (s : Session) → IsUnderWay x rules s → IsJointRun x s.shown.items (joint_of s.run.scene)
+legal-so_far x rules s way = alone-legal x rules s.shown.items (turn_of s.run) way.formed way.begins
+
+-- what was written is a front of the text, where the last call wrote nothing
+written-so_far : (x : ExerciseView) (rules : Rules) (s : Session) (before now : ℕ) (old new last : Option (List ℕ)) → IsUnderWay x rules s → HasSent x s before now old new → last ≡ new
+    → (bytes : List ℕ) × BeginsAloneText x rules bytes × AppendsPrefix old last bytes
+written-so_far x rules s before now old new last way sent kept =
+    let text = begun-text x rules s before now old new way sent in
+    (text.0, text.1, subst (λ (w : Option (List ℕ)). AppendsPrefix old w text.0) (sym kept) text.2)
+
 pub loop-rules-init : goal.loop-rules-init
 loop-rules-init g c = record {
   under_way = c.in_ok-session.ensures.under_way;
@@ -35,20 +50,14 @@ loop-rules-init g c = record {
 
 pub returns-in_err-turn-clause-refused : goal.returns-in_err-turn-clause-refused
 returns-in_err-turn-clause-refused g c =
-    let text = begun-text c.args.exercise.now (rules_of c.args.schedule c.args.limit) c.loop-rules.session (g.K.Sink.fault_count c.args.sink.now) (g.K.Sink.fault_count c.loop-rules.sink)
-    (g.K.Sink.written c.args.sink.now) (g.K.Sink.written c.loop-rules.sink) c.loop-rules.invariant.under_way c.loop-rules.invariant.sent in
-    on_err c.from_residual-in_err-turn.result (
-      text.0,
-      text.1,
-      subst (λ (new : Option (List ℕ)). AppendsPrefix (g.K.Sink.written c.args.sink.now) new text.0) (sym c.in_err-turn.ensures.kept) text.2,
-    )
+    on_err c.from_residual-in_err-turn.result
+    (written-so_far c.args.exercise.now (rules_of c.args.schedule c.args.limit) c.loop-rules.session _ _ _ _ _ c.loop-rules.invariant.under_way c.loop-rules.invariant.sent c.in_err-turn.ensures.kept)
 
 pub returns-clause-legal : goal.returns-clause-legal
 returns-clause-legal g c =
     let x = c.args.exercise.now in
     let s = c.loop-rules.session in
-    let way = c.loop-rules.invariant.under_way in
-    let legal = alone-legal x (rules_of c.args.schedule c.args.limit) s.shown.items (turn_of s.run) way.formed way.begins in
+    let legal = legal-so_far x (rules_of c.args.schedule c.args.limit) s c.loop-rules.invariant.under_way in
     IfOk-weaker c.finish.result (λ f. f.shown ≡ s.shown.items) (λ f. (j : Joint) × IsJointRun x f.shown j)
     (λ f shown. (joint_of s.run.scene, subst (λ (es : List Entry). IsJointRun x es (joint_of s.run.scene)) (sym shown) legal)) c.finish.ensures.shown
 
@@ -56,18 +65,15 @@ pub returns-clause-closed : goal.returns-clause-closed
 returns-clause-closed g c =
     let x = c.args.exercise.now in
     let s = c.loop-rules.session in
-    let way = c.loop-rules.invariant.under_way in
-    let legal = alone-legal x (rules_of c.args.schedule c.args.limit) s.shown.items (turn_of s.run) way.formed way.begins in
+    let legal = legal-so_far x (rules_of c.args.schedule c.args.limit) s c.loop-rules.invariant.under_way in
     IfOk-weaker c.finish.result (λ f. f.shown ≡ s.shown.items) (λ f. FrontsAreClosed f.shown)
     (λ f shown. rw shown (prefixes-are_closed x s.shown.items (joint_of s.run.scene) legal)) c.finish.ensures.shown
 
 pub returns-clause-refused : goal.returns-clause-refused
 returns-clause-refused g c =
-    let text = begun-text c.args.exercise.now (rules_of c.args.schedule c.args.limit) c.loop-rules.session (g.K.Sink.fault_count c.args.sink.now) (g.K.Sink.fault_count c.loop-rules.sink)
-    (g.K.Sink.written c.args.sink.now) (g.K.Sink.written c.loop-rules.sink) c.loop-rules.invariant.under_way c.loop-rules.invariant.sent in
     on_err_weaker c.finish.result
     (λ (kept : g.K.Sink.written c.finish.new.sink ≡ g.K.Sink.written c.loop-rules.sink).
-    (text.0, text.1, subst (λ (new : Option (List ℕ)). AppendsPrefix (g.K.Sink.written c.args.sink.now) new text.0) (sym kept) text.2))
+    written-so_far c.args.exercise.now (rules_of c.args.schedule c.args.limit) c.loop-rules.session _ _ _ _ _ c.loop-rules.invariant.under_way c.loop-rules.invariant.sent kept)
     c.finish.ensures.kept
 
 pub returns-clause-books : goal.returns-clause-books
@@ -75,6 +81,6 @@ returns-clause-books g c =
     let x = c.args.exercise.now in
     let s = c.loop-rules.session in
     let way = c.loop-rules.invariant.under_way in
-    let legal = alone-legal x (rules_of c.args.schedule c.args.limit) s.shown.items (turn_of s.run) way.formed way.begins in
-    let books = books-left x s.shown.items s.run.scene way.sound legal way.kept in
-    if_ok_both c.finish.result s.shown.items s.run.scene.books.items c.finish.ensures.shown c.finish.ensures.books books
+    let legal = legal-so_far x (rules_of c.args.schedule c.args.limit) s way in
+    if_ok_both c.finish.result s.shown.items s.run.scene.books.items c.finish.ensures.shown c.finish.ensures.books
+    (books-left x s.shown.items s.run.scene way.sound legal way.kept)
