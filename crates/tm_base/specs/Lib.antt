@@ -1,6 +1,6 @@
 pub mod Fits
 pub mod States
-pub mod Rows
+pub mod TableRows
 pub mod Mutex
 pub mod Semaphore
 pub mod Hoare

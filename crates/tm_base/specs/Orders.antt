@@ -39,12 +39,12 @@ HappenedBefore es a b = (between : List Entry) × IsChain es a between b
 abbrev pub StandsOnce : List Entry → Type 0
 StandsOnce es = (i j : ℕ) (e : Entry) → slice_get es i ≡ Some e → slice_get es j ≡ Some e → i ≡ j
 
--- The prefix is closed in the events: it has events of them alone, none twice, and before each of its
+-- The cut is closed in the events: it has events of them alone, none twice, and before each of its
 -- events all that happened before that one.
-pub record IsClosed (prefix events : List Entry) : Type 0 where
-  pub known : (e : Entry) → Contains prefix e → Contains events e
-  pub once : StandsOnce prefix
-  pub closed : (front back : List Entry) (a b : Entry) → prefix ≡ front ++ b ∷ back → HappenedBefore events a b → Contains front a
+pub record IsClosed (cut events : List Entry) : Type 0 where
+  pub known : (e : Entry) → Contains cut e → Contains events e
+  pub once : StandsOnce cut
+  pub closed : (prefix back : List Entry) (a b : Entry) → cut ≡ prefix ++ b ∷ back → HappenedBefore events a b → Contains prefix a
 
 -- The greatest of some numbers, or 0 where there is none.
 abbrev pub greatest : List ℕ → ℕ

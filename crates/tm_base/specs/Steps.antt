@@ -4,32 +4,33 @@ use Rattle.tm_base.specs.declared.operations.Op.{Op}
 use Rattle.tm_base.specs.declared.replies.Reply.{Reply}
 use Rattle.tm_base.specs.declared.kinds.Kind.{Kind}
 use Rattle.tm_base.specs.declared.kinds.Kind.TheVariants as kind
-use Rattle.tm_base.specs.States.{Own, State, MutexOwn, SemOwn, HoareOwn, MesaOwn, BarrierOwn, RwOwn, SyncOwn, AsyncOwn, ThreadOwn, VarOwn}
-use Rattle.tm_base.specs.Mutex.{MutexStep}
-use Rattle.tm_base.specs.Semaphore.{SemStep}
-use Rattle.tm_base.specs.Hoare.{HoareStep}
-use Rattle.tm_base.specs.Mesa.{MesaStep}
-use Rattle.tm_base.specs.Barrier.{BarrierStep}
-use Rattle.tm_base.specs.ReaderWriter.{RwStep}
-use Rattle.tm_base.specs.Synchronous.{SyncStep}
-use Rattle.tm_base.specs.Asynchronous.{AsyncStep}
-use Rattle.tm_base.specs.ThreadObject.{ThreadStep}
-use Rattle.tm_base.specs.Variable.{VarStep}
+use Rattle.tm_base.specs.States.{KindState, State, MutexState, SemState, HoareState, MesaState, BarrierState, RwState, SyncState, AsyncState, ThreadObjectState, VarState}
+use Rattle.tm_base.specs.TableRows.{Row, Never, Allows}
+use Rattle.tm_base.specs.Mutex.{mutex_row}
+use Rattle.tm_base.specs.Semaphore.{sem_row}
+use Rattle.tm_base.specs.Hoare.{hoare_row}
+use Rattle.tm_base.specs.Mesa.{mesa_row}
+use Rattle.tm_base.specs.Barrier.{barrier_row}
+use Rattle.tm_base.specs.ReaderWriter.{rw_row}
+use Rattle.tm_base.specs.Synchronous.{sync_row}
+use Rattle.tm_base.specs.Asynchronous.{async_row}
+use Rattle.tm_base.specs.ThreadObject.{thread_row}
+use Rattle.tm_base.specs.Variable.{var_row}
 
--- The row of the kind's table, with the state's own part taken apart.
-abbrev pub OwnStep : Kind → Own → State → ℕ → Op → Reply → State → Type 0
-OwnStep kind.Mutex (MutexOwn owner queue) s t o r s' = MutexStep s owner queue t o r s'
-OwnStep (kind.Sem start) (SemOwn value queue) s t o r s' = SemStep s value queue t o r s'
-OwnStep (kind.Hoare count) (HoareOwn inside entrance urgent conditions) s t o r s' = HoareStep s inside entrance urgent conditions t o r s'
-OwnStep (kind.Mesa count) (MesaOwn inside entrance conditions) s t o r s' = MesaStep s inside entrance conditions t o r s'
-OwnStep (kind.Barrier parties) (BarrierOwn queue) s t o r s' = BarrierStep s parties queue t o r s'
-OwnStep kind.Rw (RwOwn readers writer queue) s t o r s' = RwStep s readers writer queue t o r s'
-OwnStep kind.Sync (SyncOwn senders receivers closed) s t o r s' = SyncStep s senders receivers closed t o r s'
-OwnStep (kind.Async capacity) (AsyncOwn messages senders receivers closed) s t o r s' = AsyncStep s capacity messages senders receivers closed t o r s'
-OwnStep (kind.Thread own held) (ThreadOwn started begun ended beginning joiners) s t o r s' = ThreadStep s own started begun ended beginning joiners t o r s'
-OwnStep (kind.Var start) (VarOwn value) s t o r s' = VarStep s value o r s'
-OwnStep k own s t o r s' = ⊥
+-- The row of the kind's table for a thread's operation.
+abbrev pub row_of : Kind → KindState → ℕ → Op → Row
+row_of kind.Mutex (MutexState owner queue) t o = mutex_row owner queue t o
+row_of (kind.Sem start) (SemState value queue) t o = sem_row value queue t o
+row_of (kind.Hoare count) (HoareState inside entrance urgent conditions) t o = hoare_row inside entrance urgent conditions t o
+row_of (kind.Mesa count) (MesaState inside entrance conditions) t o = mesa_row inside entrance conditions t o
+row_of (kind.Barrier parties) (BarrierState queue) t o = barrier_row parties queue t o
+row_of kind.Rw (RwState readers writer queue) t o = rw_row readers writer queue t o
+row_of kind.Sync (SyncState senders receivers closed) t o = sync_row senders receivers closed t o
+row_of (kind.Async capacity) (AsyncState messages senders receivers closed) t o = async_row capacity messages senders receivers closed t o
+row_of (kind.Thread own held) (ThreadObjectState started begun ended beginning joiners) t o = thread_row own started begun ended beginning joiners t o
+row_of (kind.Var start) (VarState value) t o = var_row value o
+row_of k state t o = Never
 
 -- From state s of an object of the kind, thread t's operation may have reply r and leave state s'.
 abbrev pub Step : Kind → State → ℕ → Op → Reply → State → Type 0
-Step k s t o r s' = OwnStep k s.own s t o r s'
+Step k s t o r s' = Allows (row_of k s.kind_state t o) s r s'

@@ -2,26 +2,32 @@
 //! definitions that every other crate's contracts cite.
 #![tactic(auto)]
 
+mod asks;
+mod bars;
+mod ends;
 mod events;
 mod kinds;
+mod limits;
 mod lists;
 mod machines;
 mod memory;
 mod names;
 mod operations;
-mod outcomes;
 mod replies;
 #[cfg(test)]
 mod tests;
 mod tickets;
 
+pub use asks::Ask;
+pub use bars::Bar;
+pub use ends::End;
 pub use events::Entry;
 pub use kinds::Kind;
+pub use limits::{GREATEST_SEMAPHORE_VALUE, MOST_THREADS};
 pub use lists::{Bytes, Entries, Sequence};
 pub use machines::Machine;
 pub use memory::NoMemory;
 pub use names::Name;
 pub use operations::Op;
-pub use outcomes::{Ask, Bar, End};
 pub use replies::Reply;
 pub use tickets::Ticket;

@@ -48,7 +48,7 @@ impl<T> Sequence<T> {
         self.items
     }
 
-    /// Appends the item. Only want of memory refuses it, and then it is handed back.
+    /// Appends the item. Only running out of memory refuses it, and then it is handed back.
     pub fn push(&mut self, item: T) -> Result<(), T>
         ensures ok { OnOk result (self.new ≡ self.old ++ item ∷ []) }
         ensures handed_back { IfErr result (λ back. back ≡ item) }

@@ -16,9 +16,9 @@ pub struct Ticket {
 }
 
 impl Model for Ticket {
-    ghost use Rattle.tm_base.specs.Tickets.{Progress};
+    ghost use Rattle.tm_base.specs.Tickets.{TicketView};
 
-    ghost Value = { Progress };
+    ghost Value = { TicketView };
 
     ghost view = { λ t. record { thread = t.thread; next = t.next; clock = t.clock; waits = t.waits } };
 

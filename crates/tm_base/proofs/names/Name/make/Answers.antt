@@ -1,6 +1,6 @@
 use Rattle.std.proofs.Common.{sym, ◌∙◌}
 use Rattle.tm_base.specs.Names.{is_short}
-use Rattle.tm_base.proofs.Kept.{IsStored-kept}
+use Rattle.tm_base.proofs.StoredNamesLemmas.{IsStored-kept}
 use Rattle.tm_base.proofs.names.Name.make.Goals as goal
 
 pub invariant_of-result : goal.invariant_of-result
