@@ -1,19 +1,16 @@
--- The rows of the barrier.
-use Rattle.std.proofs.Common.{ℕ, ◌+◌, Bool, ◌==◌, List, [], ◌∷◌, ◌++◌, Option, refl, arith, length}
+-- The rows of the barrier are well made.
+use Rattle.std.proofs.Common.{◌≡◌, ℕ, true, List, refl, arith}
 use Rattle.tm_base.specs.declared.operations.Op.{Op}
 use Rattle.tm_base.specs.declared.operations.Op.TheVariants as op
-use Rattle.tm_base.specs.declared.replies.Reply.{Reply}
-use Rattle.tm_base.specs.declared.replies.Reply.TheVariants as reply
 use Rattle.tm_base.specs.declared.kinds.Kind.TheVariants as kind
-use Rattle.tm_base.specs.States.{State, BarrierOwn}
-use Rattle.tm_base.specs.Barrier.{BarrierStep}
+use Rattle.tm_base.specs.Fits.{fits}
+use Rattle.tm_base.specs.States.{BarrierState}
+use Rattle.tm_base.specs.Machines.{is_step}
+use Rattle.tm_base.specs.Barrier.{barrier_row}
+use Rattle.tm_laws.specs.WellMadeRows.{IsWellMade}
 use Rattle.tm_laws.proofs.Counting.{count_in-append}
-use Rattle.tm_laws.proofs.Rows.{IsRow, of_parts, either, serves, joining}
 
-module _ (parties : ℕ) where
-  pub BarrierStep-row : (queue : List ℕ) (g : List (Option Reply)) (b : Bool) (t : ℕ) (o : Op) (r : Reply) (s' : State)
-      → BarrierStep (of_parts (BarrierOwn queue) g b) parties queue t o r s' → IsRow (kind.Barrier parties) (of_parts (BarrierOwn queue) g b) t r s'
-  BarrierStep-row queue g b t op.Arrive r s' h =
-      either (length queue + 1 == parties) (λ h. serves reply.Last (BarrierOwn []) queue reply.Ok tt refl refl (λ x. omega arith) h)
-      (λ h. joining (BarrierOwn (queue ++ t ∷ [])) tt tt (λ x. omega (arith, count_in-append)) h) h
-  BarrierStep-row queue g b t o r s' h = elim h [ ]
+pub barrier_row-made : (parties : ℕ) (queue : List ℕ) (t : ℕ) (o : Op) → fits o (kind.Barrier parties) ≡ true → is_step o ≡ true
+    → IsWellMade (kind.Barrier parties) (BarrierState queue) t (barrier_row parties queue t o)
+barrier_row-made parties queue t op.Arrive fit call = ((refl, refl, tt, λ x. omega arith), (tt, λ x. omega (arith, count_in-append)))
+barrier_row-made parties queue t o fit call = absurd cc

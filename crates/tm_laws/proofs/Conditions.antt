@@ -1,13 +1,17 @@
 -- The queues of a monitor's conditions, of which one changes.
-use Rattle.std.proofs.Common.{◌≡◌, ℕ, zero, suc, ◌+◌, List, [], ◌∷◌, Option, Some, None, IsSomeAnd, slice_get, slice_set, refl, ap, arith}
+use Rattle.std.proofs.Common.{◌≡◌, ℕ, zero, suc, ◌+◌, ◌<◌, true, nat_lt, List, [], ◌∷◌, length, Some, slice_get, slice_set, refl, ap, arith, ltb-true}
 use Rattle.tm_base.specs.States.{all_of}
 use Rattle.tm_laws.specs.Counts.{count_in}
 use Rattle.tm_laws.proofs.Counting.{count_in-append}
 
--- what `IsSomeAnd` says
-pub some_and : {A : Type 0} (P : A → Type 0) (o : Option A) → IsSomeAnd o P → (x : A) × (o ≡ Some x) × P x
-some_and P None h = elim h [ ]
-some_and P (Some x) h = (x, refl, h)
+-- a condition has its queue
+at_condition : (queues : List (List ℕ)) (c : ℕ) → c < length queues → (waiting : List ℕ) × (slice_get queues c ≡ Some waiting)
+at_condition [] c h = absurd (omega arith)
+at_condition (q ∷ queues) zero h = (q, refl)
+at_condition (q ∷ queues) (suc c) h = at_condition queues c (omega arith)
+
+pub condition_queue : (queues : List (List ℕ)) (count c : ℕ) → length queues ≡ count → nat_lt c count ≡ true → (waiting : List ℕ) × (slice_get queues c ≡ Some waiting)
+condition_queue queues count c shape fit = at_condition queues c (omega (arith, shape, ltb-true c count fit))
 
 -- one queue is replaced by another
 pub count_all-set : (queues : List (List ℕ)) (c : ℕ) (old new : List ℕ) (x : ℕ) → slice_get queues c ≡ Some old

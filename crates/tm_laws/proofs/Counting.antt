@@ -28,8 +28,8 @@ is_queued-count (y ∷ queue) x = go (y == x) (is_queued-count queue x)
     go false ih = grind (arith, nat_tests)
 
 -- the same where it may hold a granted reply instead
-pub pending-times : (queue : List ℕ) (b : Bool) (x : ℕ) → (is_queued queue x || b) ≡ nat_lt 0 (count_in queue x + bit b)
-pending-times queue b x = go (is_queued queue x) b (is_queued-count queue x)
+pub pending-occurrences : (queue : List ℕ) (b : Bool) (x : ℕ) → (is_queued queue x || b) ≡ nat_lt 0 (count_in queue x + bit b)
+pending-occurrences queue b x = go (is_queued queue x) b (is_queued-count queue x)
   where
     go : (a b : Bool) → a ≡ nat_lt 0 (count_in queue x) → (a || b) ≡ nat_lt 0 (count_in queue x + bit b)
     go true true e = grind (arith, nat_tests)

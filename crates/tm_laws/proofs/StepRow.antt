@@ -1,54 +1,40 @@
--- Every step of every kind is a row, and its object's own part is one of the kind.
-use Rattle.std.proofs.Common.{ℕ, Bool, List, Option}
+-- Every row of every kind's table is well made, so that each step does what a well-made row does.
+use Rattle.std.proofs.Common.{◌≡◌, ℕ, true}
 use Rattle.tm_base.specs.declared.operations.Op.{Op}
 use Rattle.tm_base.specs.declared.replies.Reply.{Reply}
 use Rattle.tm_base.specs.declared.kinds.Kind.{Kind}
 use Rattle.tm_base.specs.declared.kinds.Kind.TheVariants as kind
-use Rattle.tm_base.specs.States.{Own, State, MutexOwn, SemOwn, HoareOwn, MesaOwn, BarrierOwn, RwOwn, SyncOwn, AsyncOwn, ThreadOwn, VarOwn}
-use Rattle.tm_base.specs.Steps.{Step, OwnStep}
-use Rattle.tm_laws.specs.Tidy.{IsOwnOf}
-use Rattle.tm_laws.proofs.Rows.{IsRow, of_parts}
-use Rattle.tm_laws.proofs.MutexRow.{MutexStep-row}
-use Rattle.tm_laws.proofs.SemRow.{SemStep-row}
-use Rattle.tm_laws.proofs.HoareRow.{HoareStep-row}
-use Rattle.tm_laws.proofs.MesaRow.{MesaStep-row}
-use Rattle.tm_laws.proofs.BarrierRow.{BarrierStep-row}
-use Rattle.tm_laws.proofs.RwRow.{RwStep-row}
-use Rattle.tm_laws.proofs.SyncRow.{SyncStep-row}
-use Rattle.tm_laws.proofs.AsyncRow.{AsyncStep-row}
-use Rattle.tm_laws.proofs.ThreadRow.{ThreadStep-row}
-use Rattle.tm_laws.proofs.VarRow.{VarStep-row}
+use Rattle.tm_base.specs.Fits.{fits}
+use Rattle.tm_base.specs.States.{KindState, State, MutexState, SemState, HoareState, MesaState, BarrierState, RwState, SyncState, AsyncState, ThreadObjectState, VarState}
+use Rattle.tm_base.specs.Steps.{Step, row_of}
+use Rattle.tm_base.specs.Machines.{ObjectView, CanStep, is_step}
+use Rattle.tm_laws.specs.Tidy.{IsStateOf}
+use Rattle.tm_laws.specs.WellMadeRows.{IsWellMade}
+use Rattle.tm_laws.proofs.TableRowLemmas.{RowStep, Allows-step}
+use Rattle.tm_laws.proofs.MutexRow.{mutex_row-made}
+use Rattle.tm_laws.proofs.SemRow.{sem_row-made}
+use Rattle.tm_laws.proofs.HoareRow.{hoare_row-made}
+use Rattle.tm_laws.proofs.MesaRow.{mesa_row-made}
+use Rattle.tm_laws.proofs.BarrierRow.{barrier_row-made}
+use Rattle.tm_laws.proofs.RwRow.{rw_row-made}
+use Rattle.tm_laws.proofs.SyncRow.{sync_row-made}
+use Rattle.tm_laws.proofs.AsyncRow.{async_row-made}
+use Rattle.tm_laws.proofs.ThreadRow.{thread_row-made}
+use Rattle.tm_laws.proofs.VarRow.{var_row-made}
 
-OwnStep-row : (k : Kind) (own : Own) (g : List (Option Reply)) (b : Bool) (t : ℕ) (o : Op) (r : Reply) (s' : State)
-    → OwnStep k own (of_parts own g b) t o r s' → IsRow k (of_parts own g b) t r s'
-OwnStep-row kind.Mutex (MutexOwn owner queue) g b t o r s' h = MutexStep-row owner queue g b t o r s' h
-OwnStep-row (kind.Sem start) (SemOwn value queue) g b t o r s' h = SemStep-row start value queue g b t o r s' h
-OwnStep-row (kind.Hoare count) (HoareOwn inside entrance urgent conditions) g b t o r s' h = HoareStep-row count inside entrance urgent conditions g b t o r s' h
-OwnStep-row (kind.Mesa count) (MesaOwn inside entrance conditions) g b t o r s' h = MesaStep-row count inside entrance conditions g b t o r s' h
-OwnStep-row (kind.Barrier parties) (BarrierOwn queue) g b t o r s' h = BarrierStep-row parties queue g b t o r s' h
-OwnStep-row kind.Rw (RwOwn readers writer queue) g b t o r s' h = RwStep-row readers writer queue g b t o r s' h
-OwnStep-row kind.Sync (SyncOwn senders receivers closed) g b t o r s' h = SyncStep-row senders receivers closed g b t o r s' h
-OwnStep-row (kind.Async capacity) (AsyncOwn messages senders receivers closed) g b t o r s' h = AsyncStep-row capacity messages senders receivers closed g b t o r s' h
-OwnStep-row (kind.Thread own held) (ThreadOwn started begun ended beginning joiners) g b t o r s' h = ThreadStep-row own held started begun ended beginning joiners g b t o r s' h
-OwnStep-row (kind.Var start) (VarOwn value) g b t o r s' h = VarStep-row start value g b t o r s' h
-OwnStep-row k own g b t o r s' h = elim h [ ]
+pub row_of-made : (k : Kind) (old : KindState) (t : ℕ) (o : Op) → IsStateOf k old → fits o k ≡ true → is_step o ≡ true → IsWellMade k old t (row_of k old t o)
+row_of-made kind.Mutex (MutexState owner queue) t o shape fit call = mutex_row-made owner queue t o fit call
+row_of-made (kind.Sem start) (SemState value queue) t o shape fit call = sem_row-made start value queue t o fit call
+row_of-made (kind.Hoare count) (HoareState inside entrance urgent conditions) t o shape fit call = hoare_row-made count inside entrance urgent conditions shape t o fit call
+row_of-made (kind.Mesa count) (MesaState inside entrance conditions) t o shape fit call = mesa_row-made count inside entrance conditions shape t o fit call
+row_of-made (kind.Barrier parties) (BarrierState queue) t o shape fit call = barrier_row-made parties queue t o fit call
+row_of-made kind.Rw (RwState readers writer queue) t o shape fit call = rw_row-made readers writer queue t o fit call
+row_of-made kind.Sync (SyncState senders receivers closed) t o shape fit call = sync_row-made senders receivers closed t o fit call
+row_of-made (kind.Async capacity) (AsyncState messages senders receivers closed) t o shape fit call = async_row-made capacity messages senders receivers closed t o fit call
+row_of-made (kind.Thread own held) (ThreadObjectState started begun ended beginning joiners) t o shape fit call = thread_row-made own held started begun ended beginning joiners t o fit call
+row_of-made (kind.Var start) (VarState value) t o shape fit call = var_row-made start value t o fit call
+row_of-made k old t o shape fit call = elim shape [ ]
 
-pub Step-row : (k : Kind) (s : State) (t : ℕ) (o : Op) (r : Reply) (s' : State) → Step k s t o r s' → IsRow k s t r s'
-Step-row k s t o r s' h = OwnStep-row k s.own s.granted s.stopped t o r s' h
-
--- a step starts from an own part of the kind
-OwnStep-own : (k : Kind) (own : Own) (s : State) (t : ℕ) (o : Op) (r : Reply) (s' : State) → OwnStep k own s t o r s' → IsOwnOf k own
-OwnStep-own kind.Mutex (MutexOwn owner queue) s t o r s' h = tt
-OwnStep-own (kind.Sem start) (SemOwn value queue) s t o r s' h = tt
-OwnStep-own (kind.Hoare count) (HoareOwn inside entrance urgent conditions) s t o r s' h = tt
-OwnStep-own (kind.Mesa count) (MesaOwn inside entrance conditions) s t o r s' h = tt
-OwnStep-own (kind.Barrier parties) (BarrierOwn queue) s t o r s' h = tt
-OwnStep-own kind.Rw (RwOwn readers writer queue) s t o r s' h = tt
-OwnStep-own kind.Sync (SyncOwn senders receivers closed) s t o r s' h = tt
-OwnStep-own (kind.Async capacity) (AsyncOwn messages senders receivers closed) s t o r s' h = tt
-OwnStep-own (kind.Thread own held) (ThreadOwn started begun ended beginning joiners) s t o r s' h = tt
-OwnStep-own (kind.Var start) (VarOwn value) s t o r s' h = tt
-OwnStep-own k own s t o r s' h = elim h [ ]
-
-pub Step-own : (k : Kind) (s : State) (t : ℕ) (o : Op) (r : Reply) (s' : State) → Step k s t o r s' → IsOwnOf k s.own
-Step-own k s t o r s' h = OwnStep-own k s.own s t o r s' h
+pub Step-row : (h : ObjectView) (t : ℕ) (o : Op) (r : Reply) (s' : State) → IsStateOf h.kind h.state.kind_state → CanStep h t o → Step h.kind h.state t o r s' → RowStep h.kind h.state t r s'
+Step-row h t o r s' shape may step =
+    Allows-step h.kind h.state t shape r s' (row_of h.kind h.state.kind_state t o) (row_of-made h.kind h.state.kind_state t o shape may.fit may.step) step

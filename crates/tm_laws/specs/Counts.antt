@@ -19,8 +19,8 @@ abbrev pub has_grant : State → ℕ → Bool
 has_grant s t = is_some (grant_of s t)
 
 -- How often the thread stands in a queue, and one more where it was granted a reply.
-abbrev pub times : State → ℕ → ℕ
-times s t = count_in (queued s.own) t + bit (has_grant s t)
+abbrev pub occurrences : State → ℕ → ℕ
+occurrences s t = count_in (queued s.kind_state) t + bit (has_grant s t)
 
 -- The reply says that the call waits.
 abbrev pub is_wait : Reply → Bool

@@ -1,6 +1,9 @@
 pub mod Counts
 pub mod Tidy
+pub mod WellMadeRows
 pub mod ThreadObjects
+pub mod EndedThreads
 pub mod Owed
 pub mod Waiters
 pub mod Laws
+pub mod Answered

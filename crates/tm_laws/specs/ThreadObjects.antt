@@ -2,16 +2,16 @@
 use Rattle.std.specs.Prelude.{Bool, true, false}
 use Rattle.tm_base.specs.declared.operations.Op.{Op}
 use Rattle.tm_base.specs.declared.operations.Op.TheVariants as op
-use Rattle.tm_base.specs.States.{Own, ThreadOwn}
+use Rattle.tm_base.specs.States.{KindState, ThreadObjectState}
 
 -- The own part of a thread object whose thread has begun. Objects of other kinds never begin.
-abbrev pub has_begun : Own → Bool
-has_begun (ThreadOwn started begun ended beginning joiners) = begun
+abbrev pub has_begun : KindState → Bool
+has_begun (ThreadObjectState started begun ended beginning joiners) = begun
 has_begun own = false
 
 -- The same for its end.
-abbrev pub has_ended : Own → Bool
-has_ended (ThreadOwn started begun ended beginning joiners) = ended
+abbrev pub has_ended : KindState → Bool
+has_ended (ThreadObjectState started begun ended beginning joiners) = ended
 has_ended own = false
 
 abbrev pub is_begin : Op → Bool

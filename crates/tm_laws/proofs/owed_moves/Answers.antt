@@ -1,5 +1,5 @@
 -- The law, event by event.
-use Rattle.tm_laws.proofs.Owed.{owed-moves}
+use Rattle.tm_laws.proofs.OwedLemmas.{owed-moves}
 use Rattle.tm_laws.proofs.owed_moves.Goals as goal
 
 pub returns : goal.returns

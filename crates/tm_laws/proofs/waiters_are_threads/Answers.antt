@@ -1,6 +1,6 @@
 -- The state is tidy, and there the queues are as long as there are threads that wait.
 use Rattle.tm_laws.proofs.Reaching.{history-sound}
-use Rattle.tm_laws.proofs.Waiters.{length-queued}
+use Rattle.tm_laws.proofs.WaitersLemmas.{length-queued}
 use Rattle.tm_laws.proofs.waiters_are_threads.Goals as goal
 
 pub returns : goal.returns

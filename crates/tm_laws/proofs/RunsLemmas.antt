@@ -4,11 +4,11 @@ use Rattle.tm_base.specs.Runs.{Leads}
 
 module _ {S E : Type 0} (step : S → E → S → Type 0) where
   pub Leads-append : (es fs : List E) (p q r : S) → Leads step p es q → Leads step q fs r → Leads step p (es ++ fs) r
-  Leads-append [] fs p q r front back = subst (λ (x : S). Leads step x fs r) front back
-  Leads-append (e ∷ es) fs p q r front back = (front.0, front.1, Leads-append es fs front.0 q r front.2 back)
+  Leads-append [] fs p q r prefix back = subst (λ (x : S). Leads step x fs r) prefix back
+  Leads-append (e ∷ es) fs p q r prefix back = (prefix.0, prefix.1, Leads-append es fs prefix.0 q r prefix.2 back)
 
   pub Leads-snoc : (es : List E) (e : E) (p q r : S) → Leads step p es q → step q e r → Leads step p (es ++ e ∷ []) r
-  Leads-snoc es e p q r front last = Leads-append es (e ∷ []) p q r front (r, last, refl)
+  Leads-snoc es e p q r prefix last = Leads-append es (e ∷ []) p q r prefix (r, last, refl)
 
   -- a run's parts
   pub Leads-split : (es fs : List E) (p r : S) → Leads step p (es ++ fs) r → (q : S) × Leads step p es q × Leads step q fs r

@@ -3,11 +3,11 @@ use Rattle.std.proofs.Common.{◌≡◌, ℕ, zero, suc, ◌+◌, ◌<◌, ◌�
 use Rattle.std.proofs.lemmas.Bool.{cases_eq, false_from_ne_true}
 use Rattle.tm_base.specs.declared.replies.Reply.{Reply}
 use Rattle.tm_base.specs.States.{State, queued, grant_of, is_waiting, is_pending}
-use Rattle.tm_laws.specs.Counts.{bit, count_in, times}
+use Rattle.tm_laws.specs.Counts.{bit, count_in, occurrences}
 use Rattle.tm_laws.specs.Tidy.{IsTidy}
 use Rattle.tm_laws.specs.Waiters.{waiting_to}
 use Rattle.tm_laws.proofs.Counting.{is_queued-count}
-use Rattle.tm_laws.proofs.Tidiness.{is_pending-times}
+use Rattle.tm_laws.proofs.Tidiness.{is_pending-occurrences}
 
 -- how often the threads from 1 to n stand in the queue
 abbrev total_to : List ℕ → ℕ → ℕ
@@ -51,21 +51,21 @@ bit-some (suc zero) h = refl
 bit-some (suc (suc n)) h = absurd (omega arith)
 
 module _ (threads : ℕ) (s : State) (tidy : IsTidy threads s) where
-  waiting_to-total : (n : ℕ) → waiting_to s n ≡ total_to (queued s.own) n
+  waiting_to-total : (n : ℕ) → waiting_to s n ≡ total_to (queued s.kind_state) n
   waiting_to-total zero = refl
   waiting_to-total (suc n) =
-      omega (arith, waiting_to-total n, ap bit (is_queued-count (queued s.own) (suc n)), bit-some (count_in (queued s.own) (suc n)) (omega (arith, tidy.once (suc n))))
+      omega (arith, waiting_to-total n, ap bit (is_queued-count (queued s.kind_state) (suc n)), bit-some (count_in (queued s.kind_state) (suc n)) (omega (arith, tidy.once (suc n))))
 
   -- the length of the queues is how many threads wait
-  pub length-queued : length (queued s.own) ≡ waiting_to s threads
-  length-queued = sym (waiting_to-total threads ∙ total_to-length (queued s.own) threads (λ x h. tidy.known x (omega arith)))
+  pub length-queued : length (queued s.kind_state) ≡ waiting_to s threads
+  length-queued = sym (waiting_to-total threads ∙ total_to-length (queued s.kind_state) threads (λ x h. tidy.known x (omega arith)))
 
   -- only program threads wait and are granted
   pub waiting-known : (x : ℕ) → is_waiting s x ≡ true → (1 ≤ x) × (x ≤ threads)
-  waiting-known x h = tidy.known x (omega (arith, ltb-true 0 (count_in (queued s.own) x) (sym (is_queued-count (queued s.own) x) ∙ h)))
+  waiting-known x h = tidy.known x (omega (arith, ltb-true 0 (count_in (queued s.kind_state) x) (sym (is_queued-count (queued s.kind_state) x) ∙ h)))
 
   pub pending-known : (x : ℕ) → is_pending s x ≡ true → (1 ≤ x) × (x ≤ threads)
-  pending-known x h = tidy.known x (omega (arith, ltb-true 0 (times s x) (sym (is_pending-times s x) ∙ h)))
+  pending-known x h = tidy.known x (omega (arith, ltb-true 0 (occurrences s x) (sym (is_pending-occurrences s x) ∙ h)))
 
   pub granted-known : (x : ℕ) (r : Reply) → grant_of s x ≡ Some r → (1 ≤ x) × (x ≤ threads)
   granted-known x r h = tidy.known x (omega (arith, ap (λ g. bit (is_some g)) h))
@@ -79,7 +79,7 @@ module _ (threads : ℕ) (s : State) (tidy : IsTidy threads s) where
     where
       go : (g : Option Reply) → grant_of s x ≡ g → grant_of s x ≡ None
       go None e = e
-      go (Some r) e = absurd (omega (arith, tidy.once x, ap (λ g. bit (is_some g)) e, ltb-true 0 (count_in (queued s.own) x) (sym (is_queued-count (queued s.own) x) ∙ h)))
+      go (Some r) e = absurd (omega (arith, tidy.once x, ap (λ g. bit (is_some g)) e, ltb-true 0 (count_in (queued s.kind_state) x) (sym (is_queued-count (queued s.kind_state) x) ∙ h)))
 
 -- a pending call that wasn't granted waits
 pub pending-waits : (s : State) (x : ℕ) → is_pending s x ≡ true → grant_of s x ≡ None → is_waiting s x ≡ true
