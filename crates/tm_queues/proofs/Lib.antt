@@ -1,2 +1,2 @@
-pub mod LineLemmas
-pub mod RowLemmas
+pub mod WaitQueueLemmas
+pub mod ValuedQueuesLemmas

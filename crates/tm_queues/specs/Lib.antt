@@ -1,4 +1,6 @@
-pub mod Lines
-pub mod StoredLines
-pub mod Desks
-pub mod StoredDesks
+pub mod WaitQueues
+pub mod StoredWaitQueues
+pub mod ValuedQueues
+pub mod StoredValuedQueues
+pub mod WaitStates
+pub mod StoredWaitStates

@@ -1,11 +1,14 @@
 -- Queues in which no thread stands twice.
-use Rattle.std.proofs.Common.{◌≡◌, ℕ, ◌+◌, ◌<◌, ◌≤◌, true, false, List, [], ◌∷◌, ◌++◌, length, length-append, eqb, arith, ⊎_elim, subst, Option, Some, None, option_to_list}
+use Rattle.std.proofs.Common.{◌≡◌, ◌≢◌, ◌==◌, ℕ, ◌+◌, ◌<◌, ◌≤◌, Bool, true, false, refl, get_or, slice_set, List, [], ◌∷◌, ◌++◌, length, length-append, eqb, arith, ⊎_elim, subst, Option, Some, None, option_to_list}
 use Rattle.std.proofs.lemmas.Bool.{or_parts, or_from, or_cases, eqb-true}
 use Rattle.std.proofs.lemmas.Bool.Decides.{nat_tests}
+use Rattle.std.proofs.lemmas.List.Folds.{list_any-append}
+use Rattle.std.proofs.lemmas.List.{get_or-set_same, get_or-set_other}
 use Rattle.std.specs.List.{list_any, IsDistinct, AllByRecursion}
 use Rattle.std.proofs.lemmas.Map.Steps.{length-le_from_distinct_below}
 use Rattle.tm_base.specs.States.{is_queued}
-use Rattle.tm_queues.specs.Lines.{IsQueue}
+use Rattle.tm_queues.specs.WaitQueues.{IsQueue}
+use Rattle.tm_queues.specs.StoredWaitQueues.{MarksQueue}
 
 -- two numbers are told apart either way round
 apart : (x y : ℕ) → eqb x y ≡ false → eqb y x ≡ false
@@ -50,5 +53,17 @@ pub IsQueue-tail : (threads : ℕ) (queue rest : List ℕ) (head : Option ℕ) �
 IsQueue-tail threads queue rest None e q = subst (IsQueue threads) e q
 IsQueue-tail threads queue rest (Some h) e q = (subst (IsQueue threads) e q).2
 
--- what the methods of a line need
-pub ruleset line_steps = (IsQueue-push, IsQueue-tail, length-IsQueue, room)
+-- the marks after a thread went to the end
+mark-push : (marks : List Bool) (queue : List ℕ) (t x : ℕ) (same : Bool) → eqb t x ≡ same → t < length marks → get_or marks x false ≡ is_queued queue x → get_or (slice_set marks t true) x false ≡ is_queued (queue ++ t ∷ []) x
+mark-push marks queue t x true same h m =
+    let e : t ≡ x = eqb-true t x same in
+    rw (list_any-append (λ y. y == x) queue (t ∷ []), ← e, get_or-set_same marks t true false h) (grind (arith, nat_tests))
+mark-push marks queue t x false apart h m =
+    let other : x ≢ t = λ e. grind (arith, nat_tests) in
+    rw (list_any-append (λ y. y == x) queue (t ∷ []), get_or-set_other marks t x true false other, m, apart) (grind (arith, nat_tests))
+
+pub marks-push : (marks : List Bool) (queue later : List ℕ) (t : ℕ) → MarksQueue marks queue → t < length marks → later ≡ queue ++ t ∷ [] → MarksQueue (slice_set marks t true) later
+marks-push marks queue later t m h is = rw is (record { each = λ x. mark-push marks queue t x (eqb t x) refl h (m.each x) })
+
+-- what the methods of a queue need
+pub ruleset queue_steps = (IsQueue-push, IsQueue-tail, length-IsQueue, room)

@@ -1,11 +1,13 @@
 ghost use Rattle.std.specs.Prelude.{◌≡◌, ◌≤◌, ◌<◌, ◌+◌, [], Some, None, length, replicate, IfOk, IfNone, OnSome, slice_set, slice_index_or};
 ghost use Rattle.tm_base.specs.States.{grant_all};
-ghost use Rattle.tm_queues.specs.Lines.{empty_line};
+ghost use Rattle.tm_queues.specs.ValuedQueues.{nobody_queued, queued_threads};
+ghost use Rattle.tm_queues.specs.WaitQueues.{empty_queue};
 
-use crate::lines::Line;
+use crate::valued_queues::ValuedQueue;
+use crate::wait_queues::WaitQueue;
 use std::alloc::Global;
 use std::marker::Model;
-use tm_base::{NoMemory, Reply};
+use tm_base::{MOST_THREADS, NoMemory, Reply};
 
 /// The replies that threads were granted and haven't taken yet. Contracts see them as a list with a
 /// place for each thread, from thread 0.
@@ -24,9 +26,9 @@ impl Model for Grants {
 }
 
 impl Grants {
-    /// Threads 0 to `threads`, which are at most 64, with no granted reply. Nothing later takes memory.
+    /// Threads 0 to `threads`, which are at most `MOST_THREADS`, with no granted reply. Nothing later takes memory.
     pub fn make(alloc: Global, threads: u32) -> Result<Grants, NoMemory>
-        requires { threads ≤ 64 }
+        requires { threads ≤ MOST_THREADS }
         ensures { IfOk result (λ grants. grants ≡ replicate (threads + 1) None) }
     {
         let replies = vec![in alloc; None; threads as usize + 1]?;
@@ -41,14 +43,26 @@ impl Grants {
         self.replies[thread as usize] = Some(reply);
     }
 
-    /// All that stand in the line leave it, and are granted the reply.
-    pub fn grant_all(&mut self, line: &mut Line, reply: Reply)
-        requires { line.old.threads < length self.old }
-        ensures granted { self.new ≡ grant_all line.old.queue reply self.old }
+    /// All that stand in the queue leave it, and are granted the reply.
+    pub fn grant_all(&mut self, queue: &mut WaitQueue, reply: Reply)
+        requires { queue.old.threads < length self.old }
+        ensures granted { self.new ≡ grant_all queue.old.queue reply self.old }
         ensures places { length self.new ≡ length self.old }
-        ensures line { line.new ≡ empty_line line.old.threads }
+        ensures queue { queue.new ≡ empty_queue queue.old.threads }
     {
-        while let Some(thread) = line.take() {
+        while let Some(thread) = queue.pop() {
+            self.grant(thread, reply);
+        }
+    }
+
+    /// All that stand in a queue with values leave it, and are granted the reply.
+    pub fn grant_all_valued<T: Copy>(&mut self, queue: &mut ValuedQueue<T>, reply: Reply)
+        requires { queue.old.threads < length self.old }
+        ensures granted { self.new ≡ grant_all (queued_threads queue.old.queue) reply self.old }
+        ensures places { length self.new ≡ length self.old }
+        ensures queue { queue.new ≡ nobody_queued queue.old.threads }
+    {
+        while let Some((thread, _)) = queue.pop() {
             self.grant(thread, reply);
         }
     }
