@@ -1,1 +1,6 @@
-pub mod MutexLemmas
+pub mod RowChoices
+pub mod BalanceLemmas
+pub mod OpeningLemmas
+pub mod ReadersLemmas
+pub mod ExclusionLemmas
+pub mod ReaderWriterLocksLemmas

@@ -1,3 +1,8 @@
 pub mod Mutexes
-pub mod MutexReplies
 pub mod Ownership
+pub mod Semaphores
+pub mod Barriers
+pub mod Balance
+pub mod Opening
+pub mod Exclusion
+pub mod ReaderWriterLocks

@@ -1,11 +1,23 @@
 //! Locks as textbooks define them.
 #![tactic(auto)]
 
+ghost use Rattle.tm_locks.specs.Balance.{SemaphoreBalance, SemaphoreValuesAreSmall, VsServeWaiters};
+ghost use Rattle.tm_locks.specs.Exclusion.{ReaderWriterExclusion};
+ghost use Rattle.tm_locks.specs.Opening.{BarrierOpening};
 ghost use Rattle.tm_locks.specs.Ownership.{OwnershipMoves};
 
+mod barriers;
 mod mutexes;
+mod reader_writer_locks;
+mod readers;
+mod semaphores;
+#[cfg(test)]
+mod tests;
 
+pub use barriers::BarrierM;
 pub use mutexes::MutexM;
+pub use reader_writer_locks::RwM;
+pub use semaphores::SemM;
 
 /// In every legal history of a mutex, only the owner's `unlock` takes the ownership away, and then it
 /// goes to the oldest waiter, or to nobody where none waits.
@@ -13,21 +25,32 @@ pub fn mutex_ownership()
     ensures { OwnershipMoves }
 {}
 
-#[cfg(test)]
-mod tests {
-    use super::*;
-    use std::test::Fail;
-    use tm_base::{Machine, Op, Reply};
+/// In every legal history of a semaphore its value and the P's that were completed are together as many
+/// as its start value and the V's that were completed. A P that waits is completed by the V that gives to
+/// its thread.
+pub fn semaphore_balance()
+    ensures { SemaphoreBalance }
+{}
 
-    #[test]
-    fn hands_over(rt: HostRuntime) -> Result<(), Fail> {
-        let mut mutex = MutexM::make(rt.alloc(), 2)?;
-        assert_eq!(rt; mutex.step(1, Op::Lock), Reply::Ok);
-        assert_eq!(rt; mutex.would(2, Op::Lock), Reply::Wait);
-        assert_eq!(rt; mutex.step(2, Op::Lock), Reply::Wait);
-        assert_eq!(rt; mutex.step(1, Op::Unlock), Reply::Gave(2));
-        assert!(rt; mutex.holds(2));
-        assert_eq!(rt; mutex.resume(2), Some(Reply::Ok));
-        Ok(())
-    }
-}
+/// In every legal history of a semaphore that starts with at most `GREATEST_SEMAPHORE_VALUE`, its value
+/// is at most that.
+pub fn semaphore_values_are_small()
+    ensures { SemaphoreValuesAreSmall }
+{}
+
+/// In every legal history of a semaphore the thread that a V gives to has waited, and is granted `Ok`.
+pub fn waiters_of_semaphores_are_served()
+    ensures { VsServeWaiters }
+{}
+
+/// In every legal history of a barrier an `arrive` that is answered `Last` comes when those that wait are
+/// one fewer than the parties. Each of them is granted `Ok`, and nobody waits then.
+pub fn barrier_opening()
+    ensures { BarrierOpening }
+{}
+
+/// In every state of a legal history of a reader-writer lock there is no reader or no writer inside. While
+/// a reader is inside, the oldest thread that waits wants to write, and none waits while nobody is inside.
+pub fn reader_writer_exclusion()
+    ensures { ReaderWriterExclusion }
+{}

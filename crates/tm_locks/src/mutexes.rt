@@ -1,48 +1,53 @@
 ghost use Rattle.std.specs.Prelude.{◌≡◌, ◌≤◌, true, false, Some, None, IfOk};
-ghost use Rattle.tm_base.specs.Machines.{CanStep, Steps, fresh};
-ghost use Rattle.tm_locks.specs.MutexReplies.{reply_of};
+ghost use Rattle.tm_base.specs.Machines.{Answers, CanStep, Steps, fresh};
 
 use std::alloc::Global;
 use std::marker::Model;
-use tm_base::{Kind, Machine, NoMemory, Op, Reply};
-use tm_queues::Desk;
+use tm_base::{Kind, MOST_THREADS, Machine, NoMemory, Op, Reply};
+use tm_queues::WaitState;
 
 /// The mutex of textbooks, first in, first out. Contracts see it as the object that it is.
 #[derive(Drop)]
 pub struct MutexM {
     owner: Option<u32>,
-    desk: Desk,
+    waiting: WaitState,
 }
 
 impl Model for MutexM {
-    ghost use Rattle.tm_base.specs.Machines.{Held};
+    ghost use Rattle.tm_base.specs.Machines.{ObjectView};
 
-    ghost Value = { Held };
+    ghost Value = { ObjectView };
 
-    ghost use Rattle.tm_locks.specs.Mutexes.{mutex_held};
+    ghost use Rattle.tm_locks.specs.Mutexes.{mutex_object};
 
-    ghost view = { mutex_held };
+    ghost view = { mutex_object };
 }
 
 impl MutexM {
-    /// A mutex that nobody owns, for threads 1 to `threads`, which are at most 64. Nothing later takes
+    /// A mutex that nobody owns, for threads 1 to `threads`, which are at most `MOST_THREADS`. Nothing later takes
     /// memory.
     pub fn make(alloc: Global, threads: u32) -> Result<MutexM, NoMemory>
-        requires { threads ≤ 64 }
+        requires { threads ≤ MOST_THREADS }
         ensures { IfOk result (λ mutex. mutex ≡ fresh Kind.Mutex threads) }
     {
-        let desk = Desk::make(alloc, threads)?;
-        Ok(MutexM { owner: None, desk })
+        let waiting = WaitState::make(alloc, threads)?;
+        Ok(MutexM {
+            owner: None,
+            waiting,
+        })
     }
 
     fn lock(&mut self, thread: u32) -> Reply
         requires { CanStep self.old thread Op.Lock }
         ensures { Steps self.old thread Op.Lock result self.new }
     {
-        match self.owner {
-            Some(owner) if owner != thread => self.desk.wait(thread),
-            _ => self.try_lock(thread),
+        let reply = self.would_lock(thread);
+        match reply {
+            Reply::Ok => self.owner = Some(thread),
+            Reply::Wait => self.waiting.push(thread),
+            _ => {}
         }
+        reply
     }
 
     fn try_lock(&mut self, thread: u32) -> Reply
@@ -60,27 +65,26 @@ impl MutexM {
         requires { CanStep self.old thread Op.Unlock }
         ensures { Steps self.old thread Op.Unlock result self.new }
     {
-        if self.owner != Some(thread) {
-            return Reply::NotOwner;
+        let reply = self.would_unlock(thread);
+        if reply != Reply::NotOwner {
+            self.owner = self.waiting.grant(Reply::Ok);
         }
-        self.owner = self.desk.grant(Reply::Ok);
-        match self.owner {
-            Some(next) => Reply::Gave(next),
-            None => Reply::Ok,
-        }
+        reply
     }
 
     fn would_lock(&self, thread: u32) -> Reply
-        ensures { result ≡ reply_of self.now.state thread Op.Lock }
+        requires { CanStep self.now thread Op.Lock }
+        ensures { Answers self.now thread Op.Lock result }
     {
         match self.owner {
-            Some(owner) if owner != thread => self.desk.would_wait(),
+            Some(owner) if owner != thread => self.waiting.would_wait(),
             _ => self.would_try_lock(thread),
         }
     }
 
     fn would_try_lock(&self, thread: u32) -> Reply
-        ensures { result ≡ reply_of self.now.state thread Op.TryLock }
+        requires { CanStep self.now thread Op.TryLock }
+        ensures { Answers self.now thread Op.TryLock result }
     {
         match self.owner {
             Some(owner) if owner == thread => Reply::Held,
@@ -90,10 +94,11 @@ impl MutexM {
     }
 
     fn would_unlock(&self, thread: u32) -> Reply
-        ensures { result ≡ reply_of self.now.state thread Op.Unlock }
+        requires { CanStep self.now thread Op.Unlock }
+        ensures { Answers self.now thread Op.Unlock result }
     {
         match self.owner {
-            Some(owner) if owner == thread => match self.desk.head() {
+            Some(owner) if owner == thread => match self.waiting.head() {
                 Some(next) => Reply::Gave(next),
                 None => Reply::Ok,
             },
@@ -103,11 +108,11 @@ impl MutexM {
 }
 
 impl Machine for MutexM {
-    ghost held = { λ m. m };
+    ghost object = { λ m. m };
 
     fn kind(&self) -> Kind {
         // Any field shows that it is a mutex.
-        let _ = &self.desk;
+        let _ = &self.waiting;
         Kind::Mutex
     }
 
@@ -118,7 +123,7 @@ impl Machine for MutexM {
             Op::Unlock => self.unlock(thread),
             _ => {
                 // The fields show the kind, which has no other operation.
-                let _ = &self.desk;
+                let _ = &self.waiting;
                 unreachable!()
             }
         }
@@ -126,7 +131,7 @@ impl Machine for MutexM {
 
     fn would(&self, thread: u32, op: Op) -> Reply {
         // The fields show the kind, which has no other operation.
-        let _ = &self.desk;
+        let _ = &self.waiting;
         match op {
             Op::Lock => self.would_lock(thread),
             Op::TryLock => self.would_try_lock(thread),
@@ -136,27 +141,27 @@ impl Machine for MutexM {
     }
 
     fn pending(&self, thread: u32) -> bool {
-        self.desk.pending(thread)
+        self.waiting.pending(thread)
     }
 
     fn poll(&self, thread: u32) -> Option<Reply> {
-        self.desk.poll(thread)
+        self.waiting.poll(thread)
     }
 
     fn resume(&mut self, thread: u32) -> Option<Reply> {
-        self.desk.resume(thread)
+        self.waiting.resume(thread)
     }
 
     fn waiters(&self) -> u32 {
-        self.desk.waiters()
+        self.waiting.waiters()
     }
 
     fn stopped(&self) -> bool {
-        self.desk.stopped()
+        self.waiting.stopped()
     }
 
     fn stop(&mut self) {
-        self.desk.stop();
+        self.waiting.stop();
     }
 
     fn holds(&self, thread: u32) -> bool {
