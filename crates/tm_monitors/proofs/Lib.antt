@@ -1,0 +1,3 @@
+pub mod MonitorQueuesLemmas
+mod HoareLawsLemmas
+mod MesaLawsLemmas
