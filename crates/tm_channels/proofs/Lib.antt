@@ -1,2 +1,9 @@
-pub mod ThreadLemmas
-pub mod Joins
+pub mod JoinsLemmas
+pub mod VariablesLemmas
+pub mod AssignmentsLemmas
+pub mod CapacitiesLemmas
+pub mod CallOutcomes
+pub mod DeliveriesLemmas
+pub mod ChannelRows
+pub mod ChannelHistories
+pub mod ChannelQueuesLemmas

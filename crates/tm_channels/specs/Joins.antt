@@ -4,7 +4,7 @@ use Rattle.tm_base.specs.declared.operations.Op.TheVariants as op
 use Rattle.tm_base.specs.declared.replies.Reply.TheVariants as reply
 use Rattle.tm_base.specs.declared.kinds.Kind.TheVariants as kind
 use Rattle.tm_base.specs.declared.events.Entry.{Entry}
-use Rattle.tm_base.specs.Histories.{Label, Point, IsHistory}
+use Rattle.tm_base.specs.Histories.{Label, HistoryState, IsHistory}
 use Rattle.tm_laws.specs.ThreadObjects.{is_end}
 
 -- The event answers a `join` with `ok` on the object of the thread `own`: at once, or by a resume
@@ -19,7 +19,7 @@ IsJoined own e =
 -- with `ok`.
 abbrev pub JoinsAfterEnd : Type 0
 JoinsAfterEnd =
-    (l : Label) (own : ℕ) (held : Bool) (es : List Entry) (p : Point) →
+    (l : Label) (own : ℕ) (held : Bool) (es : List Entry) (p : HistoryState) →
     l.kind ≡ kind.Thread own held → IsHistory l es p →
-    (front back : List Entry) (e : Entry) → es ≡ front ++ e ∷ back → IsJoined own e →
-    (a : Entry) × Contains front a × (is_end a.op ≡ true)
+    (prefix back : List Entry) (e : Entry) → es ≡ prefix ++ e ∷ back → IsJoined own e →
+    (a : Entry) × Contains prefix a × (is_end a.op ≡ true)

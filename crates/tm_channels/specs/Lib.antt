@@ -1,3 +1,10 @@
 pub mod Threads
-pub mod ThreadReplies
 pub mod Joins
+pub mod Variables
+pub mod Deliveries
+pub mod Capacities
+pub mod Assignments
+pub mod ChannelQueues
+pub mod StoredChannelQueues
+pub mod SyncChannels
+pub mod AsyncChannels

@@ -1,11 +1,10 @@
 ghost use Rattle.std.specs.Prelude.{◌≡◌, ◌≤◌, true, false, IfOk};
-ghost use Rattle.tm_base.specs.Machines.{CanStep, Steps, fresh};
-ghost use Rattle.tm_channels.specs.ThreadReplies.{reply_of};
+ghost use Rattle.tm_base.specs.Machines.{Answers, CanStep, Steps, fresh};
 
 use std::alloc::Global;
 use std::marker::Model;
-use tm_base::{Kind, Machine, NoMemory, Op, Reply};
-use tm_queues::Desk;
+use tm_base::{Kind, MOST_THREADS, Machine, NoMemory, Op, Reply};
+use tm_queues::WaitState;
 
 /// The object that stands for a thread: who starts it, where it begins and ends, and who waits for its
 /// end. Contracts see it as the object that it is.
@@ -19,31 +18,31 @@ pub struct ThreadM {
     /// Whether the own thread waits in `begin`.
     beginning: bool,
     /// Where the others wait for its end.
-    desk: Desk,
+    waiting: WaitState,
 }
 
 impl Model for ThreadM {
-    ghost use Rattle.tm_base.specs.Machines.{Held};
+    ghost use Rattle.tm_base.specs.Machines.{ObjectView};
 
-    ghost Value = { Held };
+    ghost Value = { ObjectView };
 
-    ghost use Rattle.tm_channels.specs.Threads.{thread_held, KeepsThread};
+    ghost use Rattle.tm_channels.specs.Threads.{thread_object_view, KeepsThread};
 
-    ghost view = { thread_held };
+    ghost view = { thread_object_view };
 
     ghost invariant = { KeepsThread };
 }
 
 impl ThreadM {
     /// The object of thread `own`, which has to be started first where it is held, among threads 1 to
-    /// `threads`, which are at most 64. Nothing later takes memory.
+    /// `threads`, which are at most `MOST_THREADS`. Nothing later takes memory.
     pub fn make(alloc: Global, threads: u32, own: u32, held: bool) -> Result<ThreadM, NoMemory>
-        requires few { threads ≤ 64 }
+        requires few { threads ≤ MOST_THREADS }
         requires program { 1 ≤ own }
         requires known { own ≤ threads }
         ensures { IfOk result (λ object. object ≡ fresh (Kind.Thread own held) threads) }
     {
-        let desk = Desk::make(alloc, threads)?;
+        let waiting = WaitState::make(alloc, threads)?;
         Ok(ThreadM {
             own,
             held,
@@ -51,7 +50,7 @@ impl ThreadM {
             begun: false,
             ended: false,
             beginning: false,
-            desk,
+            waiting,
         })
     }
 
@@ -59,66 +58,60 @@ impl ThreadM {
         requires { CanStep self.old thread Op.Begin }
         ensures { Steps self.old thread Op.Begin result self.new }
     {
+        let reply = self.would_begin(thread);
         self.begun = true;
-        self.beginning = !self.started && !self.desk.stopped();
-        if self.started {
-            Reply::Ok
-        } else {
-            self.desk.would_wait()
-        }
+        self.beginning = reply == Reply::Wait;
+        reply
     }
 
     fn start(&mut self, thread: u32) -> Reply
         requires { CanStep self.old thread Op.Start }
         ensures { Steps self.old thread Op.Start result self.new }
     {
-        if self.started {
-            return Reply::Already;
-        }
+        let reply = self.would_start(thread);
         self.started = true;
-        if self.beginning {
+        if let Reply::Gave(own) = reply {
             self.beginning = false;
-            self.desk.grant_to(self.own, Reply::Ok);
-            Reply::Gave(self.own)
-        } else {
-            Reply::Ok
+            self.waiting.grant_to(own, Reply::Ok);
         }
+        reply
     }
 
     fn join(&mut self, thread: u32) -> Reply
         requires { CanStep self.old thread Op.Join }
         ensures { Steps self.old thread Op.Join result self.new }
     {
-        if thread == self.own {
-            Reply::Myself
-        } else if self.ended {
-            Reply::Ok
-        } else {
-            self.desk.wait(thread)
+        let reply = self.would_join(thread);
+        if reply == Reply::Wait {
+            self.waiting.push(thread);
         }
+        reply
     }
 
     fn end(&mut self, thread: u32, cut: bool) -> Reply
         requires { CanStep self.old thread (Op.End cut) }
         ensures { Steps self.old thread (Op.End cut) result self.new }
     {
+        let reply = self.would_end(thread, cut);
         self.ended = true;
-        self.desk.grant_all(Reply::Ok);
-        if cut { Reply::Cut } else { Reply::Ok }
+        self.waiting.grant_all(Reply::Ok);
+        reply
     }
 
     fn would_begin(&self, thread: u32) -> Reply
-        ensures { result ≡ reply_of self.now thread Op.Begin }
+        requires { CanStep self.now thread Op.Begin }
+        ensures { Answers self.now thread Op.Begin result }
     {
         if self.started {
             Reply::Ok
         } else {
-            self.desk.would_wait()
+            self.waiting.would_wait()
         }
     }
 
     fn would_start(&self, thread: u32) -> Reply
-        ensures { result ≡ reply_of self.now thread Op.Start }
+        requires { CanStep self.now thread Op.Start }
+        ensures { Answers self.now thread Op.Start result }
     {
         if self.started {
             Reply::Already
@@ -130,27 +123,29 @@ impl ThreadM {
     }
 
     fn would_join(&self, thread: u32) -> Reply
-        ensures { result ≡ reply_of self.now thread Op.Join }
+        requires { CanStep self.now thread Op.Join }
+        ensures { Answers self.now thread Op.Join result }
     {
         if thread == self.own {
             Reply::Myself
         } else if self.ended {
             Reply::Ok
         } else {
-            self.desk.would_wait()
+            self.waiting.would_wait()
         }
     }
 
     fn would_end(&self, thread: u32, cut: bool) -> Reply
-        ensures { result ≡ reply_of self.now thread (Op.End cut) }
+        requires { CanStep self.now thread (Op.End cut) }
+        ensures { Answers self.now thread (Op.End cut) result }
     {
-        let _ = &self.desk;
+        let _ = &self.waiting;
         if cut { Reply::Cut } else { Reply::Ok }
     }
 }
 
 impl Machine for ThreadM {
-    ghost held = { λ m. m };
+    ghost object = { λ m. m };
 
     fn kind(&self) -> Kind {
         Kind::Thread {
@@ -167,7 +162,7 @@ impl Machine for ThreadM {
             Op::End { cut } => self.end(thread, cut),
             _ => {
                 // The fields show the kind, which has no other operation.
-                let _ = &self.desk;
+                let _ = &self.waiting;
                 unreachable!()
             }
         }
@@ -175,7 +170,7 @@ impl Machine for ThreadM {
 
     fn would(&self, thread: u32, op: Op) -> Reply {
         // The fields show the kind, which has no other operation.
-        let _ = &self.desk;
+        let _ = &self.waiting;
         match op {
             Op::Begin => self.would_begin(thread),
             Op::Start => self.would_start(thread),
@@ -186,31 +181,31 @@ impl Machine for ThreadM {
     }
 
     fn pending(&self, thread: u32) -> bool {
-        (self.beginning && thread == self.own) || self.desk.pending(thread)
+        (self.beginning && thread == self.own) || self.waiting.pending(thread)
     }
 
     fn poll(&self, thread: u32) -> Option<Reply> {
-        self.desk.poll(thread)
+        self.waiting.poll(thread)
     }
 
     fn resume(&mut self, thread: u32) -> Option<Reply> {
-        self.desk.resume(thread)
+        self.waiting.resume(thread)
     }
 
     fn waiters(&self) -> u32 {
-        self.desk.waiters() + u32::from(self.beginning)
+        self.waiting.waiters() + u32::from(self.beginning)
     }
 
     fn stopped(&self) -> bool {
-        self.desk.stopped()
+        self.waiting.stopped()
     }
 
     fn stop(&mut self) {
         if self.beginning {
             self.beginning = false;
-            self.desk.grant_to(self.own, Reply::Stopped);
+            self.waiting.grant_to(self.own, Reply::Stopped);
         }
-        self.desk.stop();
+        self.waiting.stop();
     }
 
     fn holds(&self, thread: u32) -> bool {
