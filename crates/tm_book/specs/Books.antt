@@ -2,9 +2,9 @@
 use Rattle.std.specs.Prelude.{◌≡◌, ℕ, suc, ◌+◌, ◌^◌, ◌≤◌, max, List, [], ◌∷◌, ◌++◌, length}
 use Rattle.tm_base.specs.declared.operations.Op.{Op}
 use Rattle.tm_base.specs.declared.events.Entry.{Entry}
-use Rattle.tm_base.specs.Machines.{Held, changed}
-use Rattle.tm_base.specs.Histories.{Label, Point, IsHistory, Lawful}
-use Rattle.tm_base.specs.Tickets.{Progress, advanced}
+use Rattle.tm_base.specs.Machines.{ObjectView, changed}
+use Rattle.tm_base.specs.Histories.{Label, HistoryState, IsHistory, Lawful, CanAnswer}
+use Rattle.tm_base.specs.Tickets.{TicketView, IsReady, advanced}
 use Rattle.tm_laws.specs.Counts.{bit, is_wait}
 use Rattle.tm_laws.specs.Tidy.{IsSound}
 use Rattle.tm_laws.specs.Owed.{owed, paid}
@@ -13,7 +13,7 @@ use Rattle.tm_laws.specs.Owed.{owed, paid}
 -- stamp (0 where there is none), and how many places are free beyond those that are owed.
 pub record BookView : Type 0 where
   pub object : ℕ
-  pub machine : Held
+  pub machine : ObjectView
   pub entries : List Entry
   pub stamp : ℕ
   pub spare : ℕ
@@ -23,15 +23,15 @@ abbrev pub label_of : BookView → Label
 label_of b = record { object = b.object; kind = b.machine.kind; threads = b.machine.threads }
 
 -- How far the book has come.
-abbrev pub point_of : BookView → Point
-point_of b = record { at = length b.entries; stamp = b.stamp; state = b.machine.state }
+abbrev pub history_state_of : BookView → HistoryState
+history_state_of b = record { at = length b.entries; stamp = b.stamp; state = b.machine.state }
 
 -- What holds of every book that counts this many owed events and has this many places: its events
 -- are a legal history of its object from the start, its machine is sound, no stamp has run ahead of
 -- the events by more than 2^62, the count is what the machine owes, and the owed events have their
 -- places.
 pub record IsKept (b : BookView) (due capacity : ℕ) : Type 0 where
-  pub history : IsHistory (label_of b) b.entries (point_of b)
+  pub history : IsHistory (label_of b) b.entries (history_state_of b)
   pub sound : IsSound b.machine
   pub bounded : b.stamp ≤ 2 ^ 62 + length b.entries
   pub owes : due ≡ owed b.machine
@@ -42,6 +42,12 @@ pub record IsKept (b : BookView) (due capacity : ℕ) : Type 0 where
 abbrev pub HasRoom : BookView → Op → Type 0
 HasRoom b o = paid o ≡ 0 → 2 ≤ b.spare
 
+-- The thread of the ticket can make the operation in the book: the object has a lawful event with
+-- both, and the thread is ready for it.
+pub record CanEnter (b : BookView) (p : TicketView) (o : Op) : Type 0 where
+  pub answers : CanAnswer b.machine p.thread o
+  pub ready : IsReady p.waits b.object o
+
 -- The thread of the ticket `before` made the entry in the old book, and it leaves the new book and
 -- the ticket `later`. In turn: it has the thread of the ticket, and the place that the ticket has
 -- for it; it is of the book's object, and has the operation; its place in the object is one more
@@ -49,7 +55,7 @@ HasRoom b o = paid o ≡ 0 → 2 ≤ b.spare
 -- which leaves the state of the new machine; the machine changes in its state alone; the object
 -- stays; the entry stands at the end; its stamp is the last; of the free places go its own, and one
 -- more where it waits, and those that it paid for come; and the ticket goes on by it.
-pub record IsEntered (old : BookView) (before : Progress) (o : Op) (e : Entry) (new : BookView) (later : Progress) : Type 0 where
+pub record IsEntered (old : BookView) (before : TicketView) (o : Op) (e : Entry) (new : BookView) (later : TicketView) : Type 0 where
   pub thread : e.thread ≡ before.thread
   pub place : e.place ≡ before.next
   pub object : e.object ≡ old.object

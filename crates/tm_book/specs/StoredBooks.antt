@@ -1,7 +1,7 @@
 -- What a stored book keeps.
 use Rattle.std.specs.Prelude.{◌+◌, ◌-◌, length}
 use Rattle.std.specs.Vec.{vec_capacity}
-use Rattle.tm_book.specs.AnyMachines.{any_held}
+use Rattle.tm_book.specs.AnyMachines.{any_object}
 use Rattle.tm_book.specs.Books.{BookView, IsKept}
 use Rattle.tm_book.specs.declared.books.Book.TheInside.{Inside}
 
@@ -10,7 +10,7 @@ abbrev pub book_view : Inside → BookView
 book_view b =
     record {
       object = b.object;
-      machine = any_held b.machine;
+      machine = any_object b.machine;
       entries = b.entries.items;
       stamp = b.stamp;
       spare = vec_capacity b.entries - (length b.entries.items + b.owed);

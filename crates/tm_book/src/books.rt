@@ -1,18 +1,17 @@
-ghost use Rattle.std.specs.Prelude.{◌≡◌, ◌+◌, ◌^◌, ◌<◌, ◌≤◌, max, [], None, Some, true, is_none, IfNone, IfOk, IfSome, IsOk, OnErr, OnOk};
-ghost use Rattle.tm_base.specs.Histories.{IsHistory, Lawful};
+ghost use Rattle.std.specs.Prelude.{◌≡◌, ◌+◌, ◌^◌, ◌<◌, ◌≤◌, max, [], None, Some, true, is_none, is_some, IfNone, IfOk, IfSome, IsOk, OnErr, OnOk};
+ghost use Rattle.tm_base.specs.Histories.{CanAnswer, IsHistory, Lawful};
 ghost use Rattle.tm_base.specs.Machines.{CanStep, changed, fresh};
-ghost use Rattle.tm_base.specs.States.{is_pending, is_waiting, start_own};
+ghost use Rattle.tm_base.specs.States.{grant_of, is_pending, is_waiting, start_kind_state};
 ghost use Rattle.tm_base.specs.declared.operations.Op.TheVariants as op;
 ghost use Rattle.tm_base.specs.declared.replies.Reply.TheVariants as reply;
 ghost use Rattle.tm_laws.specs.Counts.{bit, is_wait};
 ghost use Rattle.tm_laws.specs.Owed.{own_owed, paid};
 ghost use Rattle.tm_laws.specs.Tidy.{IsSound};
-ghost use Rattle.tm_book.specs.AnyMachines.{any_held};
-ghost use Rattle.tm_book.specs.Answering.{CanAnswer};
-ghost use Rattle.tm_book.specs.Books.{HasRoom, IsEntered, label_of, point_of};
+ghost use Rattle.tm_book.specs.AnyMachines.{any_object};
+ghost use Rattle.tm_book.specs.Books.{HasRoom, IsEntered, label_of, history_state_of};
 ghost use Rattle.tm_book.specs.Made.{CanMake};
 
-use crate::machines::AnyMachine;
+use crate::any_machines::AnyMachine;
 use std::alloc::Global;
 use std::marker::Model;
 use tm_base::{Entry, Kind, Machine, NoMemory, Op, Reply, Ticket};
@@ -43,7 +42,7 @@ impl Model for Book {
 
 impl Book {
     /// The book of an object of the kind before its first event, for threads 1 to `threads`, which
-    /// are at most 64. It has places for what the object owes at its start.
+    /// are at most `MOST_THREADS`. It has places for what the object owes at its start.
     pub fn make(alloc: Global, object: u32, kind: Kind, threads: u32) -> Result<Book, NoMemory>
         requires { CanMake kind threads }
         ensures object { IfOk result (λ book. book.object ≡ object) }
@@ -73,14 +72,14 @@ impl Book {
     /// The object's events in order. They are a legal history.
     pub fn entries(&self) -> &[Entry]
         ensures value { result.now ≡ self.now.entries }
-        ensures legal { IsHistory (label_of self.now) self.now.entries (point_of self.now) }
+        ensures legal { IsHistory (label_of self.now) self.now.entries (history_state_of self.now) }
     {
         self.entries.as_slice()
     }
 
     /// The object's machine, which is sound.
     pub fn machine(&self) -> &AnyMachine
-        ensures value { any_held result.now ≡ self.now.machine }
+        ensures value { any_object result.now ≡ self.now.machine }
         ensures sound { IsSound self.now.machine }
     {
         &self.machine
@@ -100,15 +99,19 @@ impl Book {
         self.entries.capacity() - (self.entries.len() + self.owed)
     }
 
-    /// Makes room for one call: a place for its entry and one for its resume. Where they are there
-    /// it takes no memory, and answers `Ok`. Only want of memory refuses it, and leaves all
-    /// unchanged.
+    /// Makes room for one call: a place for its entry and one for its resume. Where they are free
+    /// already it leaves all unchanged, and answers `Ok`. Only running out of memory refuses it, and
+    /// leaves all unchanged too.
     pub fn make_room(&mut self) -> Result<(), NoMemory>
         ensures room { OnOk result (2 ≤ self.new.spare) }
         ensures same { self.new ≡ record self.old { spare = self.new.spare } }
         ensures ready { 2 ≤ self.old.spare → IsOk result }
+        ensures kept_where_free { 2 ≤ self.old.spare → self.new ≡ self.old }
         ensures unchanged { OnErr result (self.new ≡ self.old) }
     {
+        if 2 <= self.spare() {
+            return Ok(());
+        }
         self.entries.reserve(self.owed + 2)?;
         Ok(())
     }
@@ -126,13 +129,14 @@ impl Book {
     }
 
     /// Resumes the thread's pending call with the reply that was granted, and answers the entry.
-    /// `None` exactly where the call still waits, and then nothing changes.
+    /// `None` exactly where the call still waits, and so was granted no reply; then nothing changes.
     pub fn finish(&mut self, ticket: &mut Ticket) -> Option<Entry>
         requires here { ticket.old.waits ≡ Some self.old.object }
         requires pending { is_pending self.old.machine.state ticket.old.thread ≡ true }
         requires next { ticket.old.next < 2 ^ 62 }
         requires clock { ticket.old.clock ≤ max (2 ^ 62) self.old.stamp }
         ensures none { is_none result ≡ is_waiting self.old.machine.state ticket.old.thread }
+        ensures granted { is_some result ≡ is_some (grant_of self.old.machine.state ticket.old.thread) }
         ensures unchanged { IfNone result (self.new ≡ self.old) }
         ensures same_ticket { IfNone result (ticket.new ≡ ticket.old) }
         ensures entered { IfSome result (λ entry. IsEntered self.old ticket.old op.Resume entry self.new ticket.new) }
@@ -188,7 +192,7 @@ impl Book {
 /// How many events an object of the kind owes at its start: its stop, and a thread object also its
 /// begin, the resume of that, and its end.
 fn owed_at_start(kind: Kind) -> usize
-    ensures { result ≡ 1 + own_owed kind (start_own kind) }
+    ensures { result ≡ 1 + own_owed kind (start_kind_state kind) }
 {
     match kind {
         Kind::Thread { .. } => 4,
@@ -223,9 +227,9 @@ fn owed_after(owed: usize, op: Op, reply: Reply) -> usize
 
 /// Makes the machine's lawful step, resume or stop, and answers its reply.
 fn answer(machine: &mut AnyMachine, thread: u32, op: Op) -> Reply
-    requires { CanAnswer (any_held machine.old) thread op }
-    ensures lawful { Lawful (any_held machine.old) thread op result (any_held machine.new).state }
-    ensures same { any_held machine.new ≡ changed (any_held machine.old) (any_held machine.new).state }
+    requires { CanAnswer (any_object machine.old) thread op }
+    ensures lawful { Lawful (any_object machine.old) thread op result (any_object machine.new).state }
+    ensures same { any_object machine.new ≡ changed (any_object machine.old) (any_object machine.new).state }
 {
     match op {
         Op::Resume => machine.resume(thread).unwrap(),

@@ -1,11 +1,11 @@
 //! Any of the objects of textbooks, and the books that keep their histories.
 #![tactic(auto)]
 
+mod any_machines;
 mod books;
-mod machines;
 
+pub use any_machines::AnyMachine;
 pub use books::Book;
-pub use machines::AnyMachine;
 
 #[cfg(test)]
 mod tests {
@@ -14,7 +14,7 @@ mod tests {
     use tm_base::{Kind, Machine, Op, Reply, Ticket};
 
     #[test]
-    fn mutexes(rt: HostRuntime) -> Result<(), Fail> {
+    fn any_machine_is_a_mutex(rt: HostRuntime) -> Result<(), Fail> {
         let mut machine = AnyMachine::make(rt.alloc(), 1, Kind::Mutex)?;
         assert_eq!(rt; machine.step(1, Op::Lock), Reply::Ok);
         assert!(rt; machine.holds(1));
@@ -22,7 +22,7 @@ mod tests {
     }
 
     #[test]
-    fn threads(rt: HostRuntime) -> Result<(), Fail> {
+    fn any_machine_is_an_object_of_a_thread(rt: HostRuntime) -> Result<(), Fail> {
         let kind = Kind::Thread {
             own: 1,
             held: false,
@@ -32,6 +32,13 @@ mod tests {
         assert_eq!(rt; machine.step(1, Op::Begin), Reply::Ok);
         machine.stop();
         assert!(rt; machine.stopped());
+        Ok(())
+    }
+
+    #[test]
+    fn any_machine_is_a_semaphore(rt: HostRuntime) -> Result<(), Fail> {
+        let mut machine = AnyMachine::make(rt.alloc(), 2, Kind::Sem { value: 1 })?;
+        assert_eq!(rt; machine.step(1, Op::P), Reply::Ok);
         Ok(())
     }
 

@@ -2,22 +2,22 @@ use Rattle.std.proofs.Common.{◌+◌, ◌^◌, ◌≤◌, max, [], ◌∷◌, l
 use Rattle.std.specs.Vec.{vec_capacity}
 use Rattle.tm_base.specs.Histories.{Lawful}
 use Rattle.tm_base.specs.declared.events.Entry.{Entry}
-use Rattle.tm_book.specs.AnyMachines.{any_held}
+use Rattle.tm_book.specs.AnyMachines.{any_object}
 use Rattle.tm_book.specs.Books.{BookView, IsKept, IsEntered, HasRoom}
 use Rattle.tm_book.specs.StoredBooks.{book_view}
-use Rattle.tm_book.proofs.Kept.{enough, fits, place, IsKept-entered}
+use Rattle.tm_book.proofs.BooksLemmas.{enough, fits, place, IsKept-entered}
 use Rattle.tm_book.proofs.books.Book.append.Goals as goal
 
 pub owed_after-self-inside-requires-clause-enough : goal.owed_after-self-inside-requires-clause-enough
 owed_after-self-inside-requires-clause-enough c =
     let i = c.self.inside in
-    enough (book_view i) i.owed (vec_capacity i.entries) c.thread.result c.args.op c.answer-reply.result (any_held c.answer-reply.new.machine).state c.self.invariant c.answer-reply.ensures.lawful
+    enough (book_view i) i.owed (vec_capacity i.entries) c.thread.result c.args.op c.answer-reply.result (any_object c.answer-reply.new.machine).state c.self.invariant c.answer-reply.ensures.lawful
 
 pub push_reserved-requires : goal.push_reserved-requires
 push_reserved-requires c =
     let i = c.self.inside in
     let room = subst (λ b. HasRoom b c.args.op) (sym c.self.view_is) c.requires.room in
-    let found = place (book_view i) i.owed (vec_capacity i.entries) c.thread.result c.args.op c.answer-reply.result (any_held c.answer-reply.new.machine).state c.self.invariant c.answer-reply.ensures.lawful refl room in
+    let found = place (book_view i) i.owed (vec_capacity i.entries) c.thread.result c.args.op c.answer-reply.result (any_object c.answer-reply.new.machine).state c.self.invariant c.answer-reply.ensures.lawful refl room in
     omega (arith, i.entries.ok.0, found)
 
 module _ (c : goal.After-advance) where
@@ -29,7 +29,7 @@ module _ (c : goal.After-advance) where
   fit =
       let i = c.self.inside in
       let room = subst (λ b. HasRoom b c.args.op) (sym c.self.view_is) c.requires.room in
-      fits old i.owed (vec_capacity i.entries) c.thread.result c.args.op c.answer-reply.result (any_held c.answer-reply.new.machine).state c.self.invariant c.answer-reply.ensures.lawful refl room
+      fits old i.owed (vec_capacity i.entries) c.thread.result c.args.op c.answer-reply.result (any_object c.answer-reply.new.machine).state c.self.invariant c.answer-reply.ensures.lawful refl room
       c.owed_after-self-inside.result c.owed_after-self-inside.ensures
 
   abbrev entry : Entry

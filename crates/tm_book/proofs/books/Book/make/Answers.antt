@@ -1,6 +1,6 @@
 use Rattle.std.proofs.Common.{◌+◌, ◌-◌, arith}
 use Rattle.std.specs.Vec.{vec_capacity}
-use Rattle.tm_book.proofs.Kept.{IsKept-start}
+use Rattle.tm_book.proofs.BooksLemmas.{IsKept-start}
 use Rattle.tm_book.proofs.books.Book.make.Goals as goal
 
 pub invariant_of-result : goal.invariant_of-result

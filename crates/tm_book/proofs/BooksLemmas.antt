@@ -6,20 +6,20 @@ use Rattle.tm_base.specs.declared.operations.Op.TheVariants as op
 use Rattle.tm_base.specs.declared.replies.Reply.{Reply}
 use Rattle.tm_base.specs.declared.kinds.Kind.{Kind}
 use Rattle.tm_base.specs.declared.events.Entry.{Entry}
-use Rattle.tm_base.specs.States.{State, start_own, grant_of, is_waiting}
-use Rattle.tm_base.specs.Machines.{Held, changed, fresh}
-use Rattle.tm_base.specs.Histories.{Label, Point, Follows, IsHistory, Lawful, first_point}
-use Rattle.tm_base.specs.Tickets.{Progress}
+use Rattle.tm_base.specs.States.{State, start_kind_state, grant_of, is_waiting}
+use Rattle.tm_base.specs.Machines.{ObjectView, changed, fresh}
+use Rattle.tm_base.specs.Histories.{Label, HistoryState, Follows, IsHistory, Lawful, first_history_state}
+use Rattle.tm_base.specs.Tickets.{TicketView}
 use Rattle.tm_laws.specs.Counts.{bit, is_wait}
 use Rattle.tm_laws.specs.Tidy.{IsSound}
 use Rattle.tm_laws.specs.Owed.{owed, own_owed, paid}
 use Rattle.tm_laws.proofs.Counting.{bit_small}
-use Rattle.tm_laws.proofs.Moving.{Lawful-moves}
-use Rattle.tm_laws.proofs.Owed.{is_owed, owed-moves, owed-pays, owed-start}
-use Rattle.tm_laws.proofs.Runs.{Leads-snoc}
-use Rattle.tm_laws.proofs.Starts.{start-sound}
-use Rattle.tm_laws.proofs.Waiters.{waiting-ungranted}
-use Rattle.tm_book.specs.Books.{BookView, IsKept, IsEntered, HasRoom, label_of, point_of}
+use Rattle.tm_laws.proofs.LawfulMoves.{Lawful-moves}
+use Rattle.tm_laws.proofs.OwedLemmas.{is_owed, owed-moves, owed-pays, owed-start}
+use Rattle.tm_laws.proofs.RunsLemmas.{Leads-snoc}
+use Rattle.tm_laws.proofs.StartStateLemmas.{start-sound}
+use Rattle.tm_laws.proofs.WaitersLemmas.{waiting-ungranted}
+use Rattle.tm_book.specs.Books.{BookView, IsKept, IsEntered, HasRoom, label_of, history_state_of}
 
 -- an operation pays for an owed event, or for none
 paid-owed : (o : Op) → (paid o ≡ 0) ⊎ (is_owed o ≡ true)
@@ -50,16 +50,16 @@ snoc : (l : Label) (es : List Entry) (stamp : ℕ) (e : Entry) (s s' : State) �
     → e.object ≡ l.object → e.at ≡ suc (length es) → stamp < e.stamp → Lawful (record { kind = l.kind; threads = l.threads; state = s }) e.thread e.op e.reply s'
     → IsHistory l (es ++ e ∷ []) (record { at = length (es ++ e ∷ []); stamp = e.stamp; state = s' })
 snoc l es stamp e s s' run object at rises lawful =
-    let p : Point = record { at = length es; stamp = stamp; state = s } in
-    let q : Point = record { at = length (es ++ e ∷ []); stamp = e.stamp; state = s' } in
+    let p : HistoryState = record { at = length es; stamp = stamp; state = s } in
+    let q : HistoryState = record { at = length (es ++ e ∷ []); stamp = e.stamp; state = s' } in
     let f : Follows l p e q = record { object = object; at = at; rises = rises; lawful = lawful; now_at = omega (arith, length-append es (e ∷ []), at); now_stamp = refl } in
-    Leads-snoc (Follows l) es e (first_point l) p q run f
+    Leads-snoc (Follows l) es e (first_history_state l) p q run f
 
-module _ (b new : BookView) (due due' capacity : ℕ) (before later : Progress) (o : Op) (e : Entry) (kept : IsKept b due capacity) (m : IsEntered b before o e new later) where
+module _ (b new : BookView) (due due' capacity : ℕ) (before later : TicketView) (o : Op) (e : Entry) (kept : IsKept b due capacity) (m : IsEntered b before o e new later) where
   grown : length new.entries ≡ length b.entries + 1
   grown = omega (arith, length-append b.entries (e ∷ []), ap length m.entries)
 
-  history : IsHistory (label_of new) new.entries (point_of new)
+  history : IsHistory (label_of new) new.entries (history_state_of new)
   history = rw (m.entries, m.now_stamp, m.same_object, ap (λ h. h.kind) m.machine, ap (λ h. h.threads) m.machine)
       (snoc (label_of b) b.entries b.stamp e b.machine.state new.machine.state kept.history m.object m.at (omega (arith, m.stamp)) m.lawful)
 
@@ -74,12 +74,12 @@ module _ (b new : BookView) (due due' capacity : ℕ) (before later : Progress) 
       }
 
 -- a book before its first event
-pub IsKept-start : (object : ℕ) (k : Kind) (threads due spare capacity : ℕ) → due ≡ 1 + own_owed k (start_own k) → due ≤ capacity
+pub IsKept-start : (object : ℕ) (k : Kind) (threads due spare capacity : ℕ) → due ≡ 1 + own_owed k (start_kind_state k) → due ≤ capacity
     → IsKept (record { object = object; machine = fresh k threads; entries = []; stamp = 0; spare = spare }) due capacity
 IsKept-start object k threads due spare capacity owes room =
     record { history = refl; sound = start-sound k threads; bounded = omega arith; owes = omega (arith, owes, owed-start k threads); room = omega (arith, room) }
 
 -- a call that was granted waits no more
-pub granted-ready : (h : Held) (t : ℕ) (r : Reply) → IsSound h → grant_of h.state t ≡ Some r → false ≡ is_waiting h.state t
+pub granted-ready : (h : ObjectView) (t : ℕ) (r : Reply) → IsSound h → grant_of h.state t ≡ Some r → false ≡ is_waiting h.state t
 granted-ready h t r sound granted =
     sym (false_from_ne_true (is_waiting h.state t) (λ waits. absurd (cc (granted, waiting-ungranted h.threads h.state sound.tidy t waits))))
