@@ -1,2 +1,2 @@
-pub mod Appending
-pub mod Taking
+pub mod AppendingLemmas
+pub mod TakingLemmas

@@ -2,4 +2,4 @@ pub mod Faults
 pub mod Taking
 pub mod Appending
 pub mod MemoryStates
-pub mod Reading
+pub mod ReadSteps

@@ -1,5 +1,5 @@
 -- What reading does to the bytes that a source has left, where it tells them.
-use Rattle.std.specs.Prelude.{◌≡◌, ℕ, List, [], ◌++◌, take, drop, Option, None, Some}
+use Rattle.std.specs.Prelude.{◌≡◌, ℕ, ◌≤◌, List, [], ◌++◌, length, take, drop, Option, None, Some}
 
 -- the old bytes are these and then the new: told bytes stay told, and untold ones untold
 abbrev pub Takes : Option (List ℕ) → Option (List ℕ) → List ℕ → Type 0
@@ -8,10 +8,11 @@ Takes (Some old) None bytes = ⊥
 Takes None (Some new) bytes = ⊥
 Takes None None bytes = Unit {0}
 
--- some front of the old bytes was taken, and the rest is left
-pub record TakesFront (old new : Option (List ℕ)) : Type 0 where
-  pub front : List ℕ
-  pub taken : Takes old new front
+-- some prefix of the old bytes was taken, of at most n bytes, and the rest is left
+pub record TakesAtMost (n : ℕ) (old new : Option (List ℕ)) : Type 0 where
+  pub prefix : List ℕ
+  pub taken : Takes old new prefix
+  pub few : length prefix ≤ n
 
 -- the first n of the old bytes, or all where there are fewer, are these, and the rest is left
 abbrev pub TakesFirst : ℕ → Option (List ℕ) → Option (List ℕ) → List ℕ → Type 0

@@ -1,5 +1,5 @@
 ghost use Rattle.std.specs.Prelude.{◌≡◌, ◌↔◌, ◌⊎◌, ◌<◌, ◌≤◌, length, take, Some, IfOk, OnOk, OnErr, IsErr};
-ghost use Rattle.tm_outside.specs.Faults.{Rose};
+ghost use Rattle.tm_outside.specs.Faults.{next_count};
 ghost use Rattle.tm_outside.specs.Appending.{Appends};
 ghost use Rattle.tm_outside.specs.MemoryStates.{new_sink, RefusesPiece, after_write, after_failed_write};
 
@@ -33,10 +33,10 @@ impl Model for MemorySink {
 }
 
 impl MemorySink {
-    /// A sink with room for `room` bytes, whose memory it takes now. The writes whose numbers from 1
-    /// stand in `fails` fail, and those of a piece that is longer than the room left; no other does. A
-    /// write after the last of 2^64 - 1 numbers has that number. `NoMemory` only where memory is
-    /// wanting.
+    /// A sink with room for `room` bytes, whose memory it takes now. The writes whose numbers from
+    /// 1 stand in `fails` fail, and those of a piece that is longer than the room left; no other
+    /// does. A write after the last of 2^64 - 1 numbers has that number. `NoMemory` only where
+    /// memory runs out.
     pub fn make(alloc: Global, room: usize, fails: &[u64]) -> Result<MemorySink, NoMemory>
         ensures { IfOk result (λ sink. sink ≡ new_sink room fails.now) }
     {
@@ -78,7 +78,7 @@ impl Sink for MemorySink {
         ensures kept { OnErr result (Some self.new.written ≡ Some self.old.written) }
 
         ensures steady { OnOk result (self.new.faults ≡ self.old.faults) }
-        ensures rose { OnErr result (Rose self.old.faults self.new.faults) }
+        ensures counted { OnErr result (self.new.faults ≡ next_count self.old.faults) }
         ensures never_falls { self.old.faults ≤ self.new.faults }
 
         // When it fails, and what it leaves.

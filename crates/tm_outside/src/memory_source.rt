@@ -1,5 +1,5 @@
 ghost use Rattle.std.specs.Prelude.{◌≡◌, ◌↔◌, ◌<◌, ◌≤◌, ◌++◌, length, take, drop, min, IfOk, OnOk, OnErr, IsErr};
-ghost use Rattle.tm_outside.specs.Faults.{Rose};
+ghost use Rattle.tm_outside.specs.Faults.{next_count};
 ghost use Rattle.tm_outside.specs.Taking.{Takes, IsAtEnd};
 ghost use Rattle.tm_outside.specs.MemoryStates.{new_source, FailsNext, after_read, after_failed_read};
 
@@ -9,8 +9,8 @@ use std::alloc::Global;
 use std::marker::Model;
 use tm_base::NoMemory;
 
-/// A source of bytes in memory, some of whose reads fail. Contracts see the bytes left, how many reads
-/// there were, the numbers of those that fail, and how many failed.
+/// A source of bytes in memory, some of whose reads fail. Contracts see the bytes left, how many
+/// reads there were, the numbers of those that fail, and how many failed.
 #[derive(Drop)]
 pub struct MemorySource {
     bytes: Vec<u8>,
@@ -32,9 +32,9 @@ impl Model for MemorySource {
 }
 
 impl MemorySource {
-    /// A source of these bytes. The reads whose numbers from 1 stand in `fails` fail, and no other; a
-    /// read after the last of 2^64 - 1 numbers has that number. `NoMemory` only where memory is
-    /// wanting.
+    /// A source of these bytes. The reads whose numbers from 1 stand in `fails` fail, and no other;
+    /// a read after the last of 2^64 - 1 numbers has that number. `NoMemory` only where memory runs
+    /// out.
     pub fn make(alloc: Global, bytes: &[u8], fails: &[u64]) -> Result<MemorySource, NoMemory>
         ensures { IfOk result (λ source. source ≡ new_source bytes.now fails.now) }
     {
@@ -69,7 +69,7 @@ impl Source for MemorySource {
         ensures kept { OnErr result (Some self.new.left ≡ Some self.old.left) }
 
         ensures steady { OnOk result (self.new.faults ≡ self.old.faults) }
-        ensures rose { OnErr result (Rose self.old.faults self.new.faults) }
+        ensures counted { OnErr result (self.new.faults ≡ next_count self.old.faults) }
         ensures never_falls { self.old.faults ≤ self.new.faults }
 
         // When it fails, and what it leaves.

@@ -1,7 +1,7 @@
 ghost use Rattle.std.specs.Prelude.{◌≡◌, ℕ, ◌+◌, ◌^◌, ◌<◌, ◌≤◌, ◌++◌, List, length, IfOk, OnOk, IsErrOf, vec_len};
-ghost use Rattle.tm_outside.specs.Faults.{Rose};
-ghost use Rattle.tm_outside.specs.Taking.{Takes, TakesFront, TakesFirst, IsAtEnd};
-ghost use Rattle.tm_outside.specs.Reading.{ReadsMore};
+ghost use Rattle.tm_outside.specs.Faults.{next_count};
+ghost use Rattle.tm_outside.specs.Taking.{Takes, TakesAtMost, TakesFirst, IsAtEnd};
+ghost use Rattle.tm_outside.specs.ReadSteps.{ReadsMore};
 
 use crate::Source;
 use std::alloc::Global;
@@ -12,7 +12,7 @@ use tm_base::Bytes;
 pub enum ReadFault {
     /// The source failed, as its count of faults shows.
     Failed,
-    /// Memory was wanting.
+    /// Memory ran out.
     NoMemory,
 }
 
@@ -20,18 +20,19 @@ pub enum ReadFault {
 const LONGEST_READ: usize = 65536;
 
 /// Reads a source to its end, or to `limit + 1` bytes, for a limit below 2^63: so more than `limit`
-/// bytes say that the source has more than `limit`. `Failed` only after a fault outside, `NoMemory`
-/// only where memory is wanting. What was read is lost after a refusal.
+/// bytes say that the source has more than `limit`. `Failed` at the first read that fails, and nothing
+/// is read after it; `NoMemory` only where memory runs out. What was read is lost after a refusal, and
+/// is at most `limit + 1` bytes too.
 pub fn read_all<S: Source>(alloc: Global, source: &mut S, limit: u64) -> Result<Bytes, ReadFault>
     requires { limit < 2 ^ 63 }
 
     ensures bounded { IfOk result (λ bytes. length bytes ≤ limit + 1) }
     ensures first { IfOk result (λ bytes. TakesFirst (limit + 1) (S.left source.old) (S.left source.new) bytes) }
     ensures end { IfOk result (λ bytes. length bytes ≤ limit → IsAtEnd (S.left source.new)) }
-    ensures front { TakesFront (S.left source.old) (S.left source.new) }
+    ensures prefix { TakesAtMost (limit + 1) (S.left source.old) (S.left source.new) }
 
     ensures steady { OnOk result (S.fault_count source.new ≡ S.fault_count source.old) }
-    ensures rose { IsErrOf result ReadFault.Failed → Rose (S.fault_count source.old) (S.fault_count source.new) }
+    ensures counted { IsErrOf result ReadFault.Failed → S.fault_count source.new ≡ next_count (S.fault_count source.old) }
     ensures no_memory { IsErrOf result ReadFault.NoMemory → S.fault_count source.new ≡ S.fault_count source.old }
     ensures never_falls { S.fault_count source.old ≤ S.fault_count source.new }
 {
@@ -63,10 +64,10 @@ fn read_some<S: Source>(
     ensures within { IfOk result (λ n. n ≤ wanted) }
     ensures more { IfOk result (λ n. ReadsMore (S.left source.old) (S.left source.new) bytes.old.items bytes.new.items n) }
     ensures end { IfOk result (λ n. n ≡ 0 → IsAtEnd (S.left source.new)) }
-    ensures front { TakesFront (S.left source.old) (S.left source.new) }
+    ensures prefix { TakesAtMost wanted (S.left source.old) (S.left source.new) }
 
     ensures steady { OnOk result (S.fault_count source.new ≡ S.fault_count source.old) }
-    ensures rose { IsErrOf result ReadFault.Failed → Rose (S.fault_count source.old) (S.fault_count source.new) }
+    ensures counted { IsErrOf result ReadFault.Failed → S.fault_count source.new ≡ next_count (S.fault_count source.old) }
     ensures no_memory { IsErrOf result ReadFault.NoMemory → S.fault_count source.new ≡ S.fault_count source.old }
     ensures never_falls { S.fault_count source.old ≤ S.fault_count source.new }
 {

@@ -1,5 +1,5 @@
 ghost use Rattle.std.specs.Prelude.{◌≡◌, ℕ, ◌<◌, ◌≤◌, List, length, take, Option, IfOk, OnOk, OnErr};
-ghost use Rattle.tm_outside.specs.Faults.{Rose};
+ghost use Rattle.tm_outside.specs.Faults.{next_count};
 ghost use Rattle.tm_outside.specs.Appending.{Appends};
 
 use crate::Failed;
@@ -17,7 +17,7 @@ pub trait Sink {
     fn faults(&self) -> u64
         ensures { result ≡ fault_count self.now };
 
-    /// Writes a front of the piece, and answers how many bytes: at least one, unless the piece is
+    /// Writes a prefix of the piece, and answers how many bytes: at least one, unless the piece is
     /// empty, which appends nothing. `Failed` only after a fault outside; the bytes written are then
     /// as before.
     fn write(&mut self, piece: &[u8]) -> Result<usize, Failed>
@@ -27,6 +27,6 @@ pub trait Sink {
         ensures kept { OnErr result (written self.new ≡ written self.old) }
 
         ensures steady { OnOk result (fault_count self.new ≡ fault_count self.old) }
-        ensures rose { OnErr result (Rose (fault_count self.old) (fault_count self.new)) }
+        ensures counted { OnErr result (fault_count self.new ≡ next_count (fault_count self.old)) }
         ensures never_falls { fault_count self.old ≤ fault_count self.new };
 }

@@ -1,5 +1,5 @@
 ghost use Rattle.std.specs.Prelude.{◌≡◌, ℕ, ◌<◌, ◌≤◌, List, length, take, Option, IfOk, OnOk, OnErr};
-ghost use Rattle.tm_outside.specs.Faults.{Rose};
+ghost use Rattle.tm_outside.specs.Faults.{next_count};
 ghost use Rattle.tm_outside.specs.Taking.{Takes, IsAtEnd};
 
 use crate::Failed;
@@ -17,7 +17,7 @@ pub trait Source {
     fn faults(&self) -> u64
         ensures { result ≡ fault_count self.now };
 
-    /// Reads into the front of the buffer, and answers how many bytes. The rest of the buffer may hold
+    /// Reads into the start of the buffer, and answers how many bytes. The rest of the buffer may hold
     /// anything afterwards, and after `Failed` all of it. `Ok(0)` on a buffer that is not empty is the
     /// end. `Failed` only after a fault outside; the bytes left are then as before.
     fn read(&mut self, buf: &mut [u8]) -> Result<usize, Failed>
@@ -27,6 +27,6 @@ pub trait Source {
         ensures kept { OnErr result (left self.new ≡ left self.old) }
 
         ensures steady { OnOk result (fault_count self.new ≡ fault_count self.old) }
-        ensures rose { OnErr result (Rose (fault_count self.old) (fault_count self.new)) }
+        ensures counted { OnErr result (fault_count self.new ≡ next_count (fault_count self.old)) }
         ensures never_falls { fault_count self.old ≤ fault_count self.new };
 }

@@ -1,6 +1,6 @@
 ghost use Rattle.std.specs.Prelude.{◌≡◌, ◌<◌, ◌≤◌, length, IfOk, OnOk, OnErr};
 ghost use Rattle.std.specs.Io.KnownBytes.{ReadConsumes, WriteAppends};
-ghost use Rattle.tm_outside.specs.Faults.{Rose, next_count};
+ghost use Rattle.tm_outside.specs.Faults.{next_count};
 
 use crate::faults::one_more;
 use crate::{Failed, Sink, Source};
@@ -48,12 +48,11 @@ impl<R: Read + Drop> Source for StdSource<R> {
         ensures within { IfOk result (λ n. n ≤ length buf.old) }
 
         ensures steady { OnOk result (self.new.1 ≡ self.old.1) }
-        ensures rose { OnErr result (Rose self.old.1 self.new.1) }
+        ensures counted { OnErr result (self.new.1 ≡ next_count self.old.1) }
         ensures never_falls { self.old.1 ≤ self.new.1 }
 
-        // What the reader gave, where std knows, and one fault at most.
+        // What the reader gave, where std knows.
         ensures given { ReadConsumes (R.remaining self.old.0) (R.remaining self.new.0) result buf.new }
-        ensures after_failure { OnErr result (self.new.1 ≡ next_count self.old.1) }
     {
         match self.reader.read(buf) {
             Ok(n) => Ok(n),
@@ -108,12 +107,11 @@ impl<W: Write + Drop> Sink for StdSink<W> {
         ensures some { IfOk result (λ n. 0 < length piece.now → 0 < n) }
 
         ensures steady { OnOk result (self.new.1 ≡ self.old.1) }
-        ensures rose { OnErr result (Rose self.old.1 self.new.1) }
+        ensures counted { OnErr result (self.new.1 ≡ next_count self.old.1) }
         ensures never_falls { self.old.1 ≤ self.new.1 }
 
-        // What the writer took, where std knows, and one fault at most.
+        // What the writer took, where std knows.
         ensures taken { WriteAppends (W.contents self.old.0) (W.contents self.new.0) result piece.now }
-        ensures after_failure { OnErr result (self.new.1 ≡ next_count self.old.1) }
     {
         match self.writer.write(piece) {
             Ok(n) if n > 0 || piece.is_empty() => Ok(n),

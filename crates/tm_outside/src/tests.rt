@@ -3,7 +3,7 @@ use std::io;
 use std::test::Fail;
 
 #[test]
-fn reads_to_the_end_or_the_limit(rt: HostRuntime) -> Result<(), Fail> {
+fn a_source_is_read_to_its_end_or_to_the_limit(rt: HostRuntime) -> Result<(), Fail> {
     for (limit, want) in [(10u32, "hello"), (4, "hello"), (3, "hell")] {
         let mut source = MemorySource::make(rt.alloc(), b"hello", &[])?;
         let bytes = read_all(rt.alloc(), &mut source, u64::from(limit))?;
@@ -14,7 +14,7 @@ fn reads_to_the_end_or_the_limit(rt: HostRuntime) -> Result<(), Fail> {
 }
 
 #[test]
-fn reads_that_fail(rt: HostRuntime) -> Result<(), Fail> {
+fn a_failed_read_is_told(rt: HostRuntime) -> Result<(), Fail> {
     let mut source = MemorySource::make(rt.alloc(), b"hello", &[2])?;
     let answer = read_all(rt.alloc(), &mut source, 10).err();
     assert_eq!(rt; answer, Some(ReadFault::Failed));
@@ -23,7 +23,7 @@ fn reads_that_fail(rt: HostRuntime) -> Result<(), Fail> {
 }
 
 #[test]
-fn writes_that_fail(rt: HostRuntime) -> Result<(), Fail> {
+fn a_failed_write_is_told(rt: HostRuntime) -> Result<(), Fail> {
     let mut sink = MemorySink::make(rt.alloc(), 8, &[3])?;
     assert_eq!(rt; write_all(&mut sink, b"abc"), Ok(()));
     assert_eq!(rt; sink.write(b"de"), Ok(2));
@@ -41,7 +41,7 @@ fn writes_that_fail(rt: HostRuntime) -> Result<(), Fail> {
 }
 
 #[test]
-fn readers_and_writers_of_std(rt: HostRuntime) -> Result<(), Fail> {
+fn readers_and_writers_of_std_are_sources_and_sinks(rt: HostRuntime) -> Result<(), Fail> {
     let mut source = StdSource::make(b"hello".as_slice());
     let bytes = read_all(rt.alloc(), &mut source, 10)?;
     assert_eq!(rt; bytes.as_slice(), b"hello".as_slice());
@@ -57,7 +57,7 @@ fn readers_and_writers_of_std(rt: HostRuntime) -> Result<(), Fail> {
 }
 
 #[test]
-fn standard_input_and_output(rt: HostRuntime) -> Result<(), Fail> {
+fn standard_input_and_output_are_a_source_and_a_sink(rt: HostRuntime) -> Result<(), Fail> {
     let mut source = StdSource::make(rt.reader());
     let bytes = read_all(rt.alloc(), &mut source, 10)?;
     assert!(rt; bytes.is_empty());

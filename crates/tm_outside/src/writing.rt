@@ -1,21 +1,25 @@
 ghost use Rattle.std.specs.Prelude.{◌≡◌, ◌≤◌, OnOk, OnErr};
-ghost use Rattle.tm_outside.specs.Faults.{Rose};
-ghost use Rattle.tm_outside.specs.Appending.{Appends, AppendsPrefix};
+ghost use Rattle.tm_outside.specs.Faults.{next_count};
+ghost use Rattle.tm_outside.specs.Appending.{Appends, AppendsProperPrefix};
 
 use crate::{Failed, Sink};
 
-/// Writes the whole piece. `Failed` only after a fault outside; a front of the piece was then written.
+/// Writes the whole piece. `Failed` at the first write that fails, and nothing is written after it: a
+/// prefix of the piece was then written, and not all of it.
 pub fn write_all<K: Sink>(sink: &mut K, piece: &[u8]) -> Result<(), Failed>
     ensures ok { OnOk result (Appends (K.written sink.old) (K.written sink.new) piece.now) }
-    ensures err { OnErr result (AppendsPrefix (K.written sink.old) (K.written sink.new) piece.now) }
+    ensures err { OnErr result (AppendsProperPrefix (K.written sink.old) (K.written sink.new) piece.now) }
 
     ensures steady { OnOk result (K.fault_count sink.new ≡ K.fault_count sink.old) }
-    ensures rose { OnErr result (Rose (K.fault_count sink.old) (K.fault_count sink.new)) }
+    ensures counted { OnErr result (K.fault_count sink.new ≡ next_count (K.fault_count sink.old)) }
     ensures never_falls { K.fault_count sink.old ≤ K.fault_count sink.new }
 {
     let mut sent = 0;
     while sent < piece.len() {
-        sent += sink.write(&piece[sent..])?;
+        let Ok(n) = sink.write(&piece[sent..]) else {
+            return Err(Failed);
+        };
+        sent += n;
     }
     Ok(())
 }

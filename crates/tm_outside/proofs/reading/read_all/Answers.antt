@@ -1,11 +1,11 @@
 use Rattle.std.proofs.Common.{◌≡◌, ◌+◌, ◌≤◌, ◌++◌, length, arith, inl, inr, length-append}
-use Rattle.tm_outside.proofs.Taking.{Takes-trans, TakesFront-after, TakesFirst-from_takes}
+use Rattle.tm_outside.proofs.TakingLemmas.{Takes-trans, TakesAtMost-after, TakesFirst-from_takes}
 use Rattle.tm_outside.proofs.reading.read_all.Goals as goal
 use Rattle.tm_outside.proofs.reading.read_all.Goals.{else-loop-bytes-test, then-loop-bytes-test+in_ok-read_some+then-branch-eq0}
 
-pub returns-in_err-read_some-clause-front : goal.returns-in_err-read_some-clause-front
-returns-in_err-read_some-clause-front g c =
-    TakesFront-after _ _ _ c.loop-bytes.bytes.items c.loop-bytes.invariant.taken c.read_some.ensures.front
+pub returns-in_err-read_some-clause-prefix : goal.returns-in_err-read_some-clause-prefix
+returns-in_err-read_some-clause-prefix g c =
+    TakesAtMost-after _ _ _ _ _ c.loop-bytes.bytes.items (omega (arith, c.loop-bytes.bytes.ok.0)) c.loop-bytes.invariant.taken c.read_some.ensures.prefix
 
 pub returns-clause-first : goal.returns-clause-first
 returns-clause-first g c =

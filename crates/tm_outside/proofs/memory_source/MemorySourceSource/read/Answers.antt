@@ -1,7 +1,7 @@
 use Rattle.std.proofs.Common.{◌≡◌, ◌-◌, length, take, drop, sym, ap, ◌∙◌, arith}
 use Rattle.std.proofs.lemmas.List.{take_rest}
 use Rattle.tm_outside.specs.MemoryStates.{SourceState}
-use Rattle.tm_outside.proofs.Taking.{taken_front}
+use Rattle.tm_outside.proofs.TakingLemmas.{taken_front}
 use Rattle.tm_outside.proofs.memory_source.MemorySourceSource.read.Goals as goal
 
 pub returns-clause-bytes : goal.returns-clause-bytes

@@ -1,7 +1,7 @@
 -- What reads one after the other take.
-use Rattle.std.proofs.Common.{◌≡◌, ℕ, ◌+◌, ◌≤◌, ◌⊎◌, List, [], ◌++◌, Option, None, Some, sym, ap, ◌∙◌, append_assoc, append-nil, length, take, drop, inl, inr, take-append-drop, drop_of_length-le}
+use Rattle.std.proofs.Common.{◌≡◌, ℕ, ◌+◌, ◌≤◌, ◌⊎◌, List, [], ◌++◌, Option, None, Some, sym, ap, ◌∙◌, append_assoc, append-nil, length, take, drop, inl, inr, take-append-drop, drop_of_length-le, length-append, arith}
 use Rattle.std.proofs.lemmas.List.{take_at, drop_at, take_all, drop-drop, length-take-le}
-use Rattle.tm_outside.specs.Taking.{Takes, TakesFront, TakesFirst, IsAtEnd}
+use Rattle.tm_outside.specs.Taking.{Takes, TakesAtMost, TakesFirst, IsAtEnd}
 
 -- where nothing changed nothing was taken
 pub Takes-none : (old new : Option (List ℕ)) → new ≡ old → Takes old new []
@@ -20,15 +20,16 @@ Takes-trans (Some x) (Some y) None bytes more p q = absurd q
 Takes-trans (Some x) (Some y) (Some z) bytes more p q =
     p ∙ ap (λ l. bytes ++ l) q ∙ sym (append_assoc bytes more z)
 
--- where nothing changed an empty front was taken
-pub TakesFront-none : (old new : Option (List ℕ)) → new ≡ old → TakesFront old new
-TakesFront-none old new same = record { front = []; taken = Takes-none old new same }
+-- where nothing changed no byte was taken
+pub TakesAtMost-none : (n : ℕ) (old new : Option (List ℕ)) → new ≡ old → TakesAtMost n old new
+TakesAtMost-none n old new same = record { prefix = []; taken = Takes-none old new same; few = omega arith }
 
--- a front is taken in two steps
-pub TakesFront-after : (first second third : Option (List ℕ)) (bytes : List ℕ) → Takes first second bytes → TakesFront second third → TakesFront first third
-TakesFront-after first second third bytes p q = record {
-  front = bytes ++ q.front;
-  taken = Takes-trans first second third bytes q.front p q.taken;
+-- a prefix is taken in two steps
+pub TakesAtMost-after : (n m : ℕ) (first second third : Option (List ℕ)) (bytes : List ℕ) → length bytes + m ≤ n → Takes first second bytes → TakesAtMost m second third → TakesAtMost n first third
+TakesAtMost-after n m first second third bytes fits p q = record {
+  prefix = bytes ++ q.prefix;
+  taken = Takes-trans first second third bytes q.prefix p q.taken;
+  few = rw length-append (omega (arith, q.few));
 }
 
 -- what was taken are the first n bytes, where it is n bytes, or fewer and none is left
@@ -45,5 +46,5 @@ TakesFirst-from_takes n (Some x) (Some y) bytes p (inr (short, none)) =
 -- the first n bytes stand in front of a buffer
 pub taken_front : (bytes buf new : List ℕ) (at n : ℕ) → n ≤ length (drop at bytes) → new ≡ take n (drop at bytes) ++ drop n buf → drop at bytes ≡ take n new ++ drop (at + n) bytes
 taken_front bytes buf new at n fits copied =
-    let front : take n new ≡ take n (drop at bytes) = ap (take n) copied ∙ take_at _ _ n (length-take-le n (drop at bytes) fits) in
-    sym (take-append-drop n (drop at bytes)) ∙ ap (λ l. l ++ drop n (drop at bytes)) (sym front) ∙ ap (λ l. take n new ++ l) (drop-drop n at bytes)
+    let prefix : take n new ≡ take n (drop at bytes) = ap (take n) copied ∙ take_at _ _ n (length-take-le n (drop at bytes) fits) in
+    sym (take-append-drop n (drop at bytes)) ∙ ap (λ l. l ++ drop n (drop at bytes)) (sym prefix) ∙ ap (λ l. take n new ++ l) (drop-drop n at bytes)
