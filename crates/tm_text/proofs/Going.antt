@@ -1,18 +1,18 @@
 -- How a loop of the reader goes on.
 use Rattle.std.proofs.Common.{◌≡◌, ℕ, List, [], ◌∷◌, ◌++◌, Option, Some, None, option_map, option_and_then, refl, sym, ap, ◌∙◌, append_assoc, append-nil}
 use Rattle.tm_text.specs.declared.exercises.Statement.{Statement}
-use Rattle.tm_text.specs.declared.sentences.Sentence.{Sentence}
+use Rattle.tm_text.specs.declared.parsed_lines.ParsedLine.{ParsedLine}
 use Rattle.tm_text.specs.Grammar.{without_cr}
-use Rattle.tm_text.specs.Reading.{said_of, in_front, sentences_of, put_statement, put_call, put_open}
+use Rattle.tm_text.specs.Reading.{said_of, in_front, parsed_lines_of, put_statement, put_call, put_open}
 
--- a sentence at the end of those so far is one in front of those to come
-in_front-more : (front : List Sentence) (s : Sentence) (o : Option (List Sentence)) → option_map (λ ss. front ++ ss) (option_map (in_front (Some s)) o) ≡ option_map (λ ss. (front ++ s ∷ []) ++ ss) o
-in_front-more front s None = refl
-in_front-more front s (Some ss) = ap (λ l. Some l) (sym (append_assoc front (s ∷ []) ss))
+-- a parsed line at the end of those so far is one in front of those to come
+in_front-more : (prefix : List ParsedLine) (s : ParsedLine) (o : Option (List ParsedLine)) → option_map (λ ss. prefix ++ ss) (option_map (in_front (Some s)) o) ≡ option_map (λ ss. (prefix ++ s ∷ []) ++ ss) o
+in_front-more prefix s None = refl
+in_front-more prefix s (Some ss) = ap (λ l. Some l) (sym (append_assoc prefix (s ∷ []) ss))
 
-pub sentences_of-more : (front : List Sentence) (s : Sentence) (line : List ℕ) (lines : List (List ℕ)) → said_of (without_cr line) ≡ Some (Some s) → option_map (λ ss. front ++ ss) (sentences_of (line ∷ lines)) ≡ option_map (λ ss. (front ++ s ∷ []) ++ ss) (sentences_of lines)
-sentences_of-more front s line lines e =
-    ap (λ o. option_map (λ ss. front ++ ss) (option_and_then (λ t. option_map (in_front t) (sentences_of lines)) o)) e ∙ in_front-more front s (sentences_of lines)
+pub parsed_lines_of-more : (prefix : List ParsedLine) (s : ParsedLine) (line : List ℕ) (lines : List (List ℕ)) → said_of (without_cr line) ≡ Some (Some s) → option_map (λ ss. prefix ++ ss) (parsed_lines_of (line ∷ lines)) ≡ option_map (λ ss. (prefix ++ s ∷ []) ++ ss) (parsed_lines_of lines)
+parsed_lines_of-more prefix s line lines e =
+    ap (λ o. option_map (λ ss. prefix ++ ss) (option_and_then (λ t. option_map (in_front t) (parsed_lines_of lines)) o)) e ∙ in_front-more prefix s (parsed_lines_of lines)
 
 -- nothing in front
 pub option_map-nil : {X : Type 0} (o : Option (List X)) → option_map (λ ps. [] ++ ps) o ≡ o

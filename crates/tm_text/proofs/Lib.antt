@@ -1,9 +1,9 @@
-pub mod Programs
+pub mod ProgramsLemmas
 pub mod Owns
-pub mod Cuts
+pub mod LinesLemmas
 pub mod Going
-pub mod Spelling
-pub mod Sound
+pub mod SpelledLemmas
+pub mod ReaderSoundLemmas
 pub mod Complete
 pub mod Readings
 pub mod OwnNumbers

@@ -1,13 +1,12 @@
 -- The own object of a thread.
-use Rattle.std.proofs.Common.{◌≡◌, ℕ, zero, suc, ◌+◌, ◌≤◌, ◌<◌, ◌-◌, ◌==◌, nat_eq, Bool, true, false, cond, List, [], ◌∷◌, length, get_or, slice_get, filter_map, Option, Some, None, arith, refl, sym, ap, ◌∙◌, subst, add-one}
+use Rattle.std.proofs.Common.{◌≡◌, ℕ, zero, suc, ◌≤◌, ◌<◌, ◌-◌, ◌==◌, Bool, true, false, List, [], ◌∷◌, length, get_or, slice_get, filter_map, Option, Some, None, arith, refl, sym, ap, ◌∙◌, add-one}
 use Rattle.std.specs.List.{range_with_len, cons_option}
 use Rattle.std.proofs.lemmas.Option.{slice_get_within}
 use Rattle.std.proofs.lemmas.List.FromFn.{length-range_with_len, get_or-range_with_len}
 use Rattle.std.proofs.lemmas.Bool.Decides.{nat_tests}
-use Rattle.std.proofs.lemmas.Grind.{common_steps}
 use Rattle.tm_base.specs.declared.kinds.Kind.{Kind}
 use Rattle.tm_base.specs.declared.kinds.Kind.TheVariants as kind
-use Rattle.tm_text.specs.declared.exercises.Declared.{Declared}
+use Rattle.tm_text.specs.declared.exercises.Declaration.{Declaration}
 use Rattle.tm_text.specs.Exercises.{ExerciseView, IsWellFormed, is_own, own_of, thread_of_kind, thread_of}
 
 -- the number is the thread's
@@ -29,19 +28,19 @@ is_own-is t (kind.Async capacity) = refl
 is_own-is t (kind.Var value) = refl
 
 -- the thread's own object is among these
-abbrev Owned : List Declared → ℕ → Type 0
-Owned ds t = (d : Declared) × (slice_get ds (own_of ds t) ≡ Some d) × (thread_of d ≡ Some t)
+abbrev Owned : List Declaration → ℕ → Type 0
+Owned ds t = (d : Declaration) × (slice_get ds (own_of ds t) ≡ Some d) × (thread_of d ≡ Some t)
 
 -- the object in front is the thread's own
-own_first : (d : Declared) (ds : List Declared) (t : ℕ) → is_own t d.kind ≡ true → thread_of d ≡ Some t → Owned (d ∷ ds) t
+own_first : (d : Declaration) (ds : List Declaration) (t : ℕ) → is_own t d.kind ≡ true → thread_of d ≡ Some t → Owned (d ∷ ds) t
 own_first d ds t own names = (d, rw own refl, names)
 
 -- the thread's own object stands after the one in front
-own_later : (d : Declared) (ds : List Declared) (t : ℕ) → is_own t d.kind ≡ false → Owned ds t → Owned (d ∷ ds) t
+own_later : (d : Declaration) (ds : List Declaration) (t : ℕ) → is_own t d.kind ≡ false → Owned ds t → Owned (d ∷ ds) t
 own_later d ds t other found = (found.0, rw (other, add-one) found.1, found.2)
 
 -- the test of the object in front, with what it stands for
-by_first : (d : Declared) (ds : List Declared) (t k : ℕ) (o : Option ℕ) (b : Bool)
+by_first : (d : Declaration) (ds : List Declaration) (t k : ℕ) (o : Option ℕ) (b : Bool)
     → thread_of d ≡ o → is_own t d.kind ≡ b → is_number t o ≡ b
     → ((j : ℕ) → j < length (filter_map thread_of ds) → get_or (filter_map thread_of ds) j 0 ≡ t → Owned ds t)
     → k < length (cons_option o (filter_map thread_of ds)) → get_or (cons_option o (filter_map thread_of ds)) k 0 ≡ t
@@ -56,14 +55,14 @@ by_first d ds t (suc k) (Some o) false names own number later within at =
     let inside : k < length (filter_map thread_of ds) = omega arith in own_later d ds t own (later k inside at)
 
 -- a thread that one of the objects stands for has an own object among them
-owned_among : (ds : List Declared) (t k : ℕ) → k < length (filter_map thread_of ds) → get_or (filter_map thread_of ds) k 0 ≡ t → Owned ds t
+owned_among : (ds : List Declaration) (t k : ℕ) → k < length (filter_map thread_of ds) → get_or (filter_map thread_of ds) k 0 ≡ t → Owned ds t
 owned_among [] t k within at = absurd (omega arith)
 owned_among (d ∷ ds) t k within at =
     by_first d ds t k (thread_of d) (is_own t d.kind) refl refl (sym (is_own-is t d.kind)) (owned_among ds t) within at
 
 -- the own object of a thread with a program stands for the thread
 pub own_of-found : (x : ExerciseView) → IsWellFormed x → (t : ℕ) → 1 ≤ t → t ≤ length x.programs
-    → (d : Declared) × (slice_get x.objects (own_of x.objects t) ≡ Some d) × (thread_of d ≡ Some t)
+    → (d : Declaration) × (slice_get x.objects (own_of x.objects t) ≡ Some d) × (thread_of d ≡ Some t)
 own_of-found x h t program known =
     let within : t - 1 < length (range_with_len 1 (length x.programs)) = rw length-range_with_len (omega arith) in
     let below : t - 1 < length x.programs = omega arith in

@@ -3,33 +3,34 @@ use Rattle.std.proofs.Common.{◌≡◌, ℕ, ◌≤◌, true, false, List, leng
 use Rattle.std.specs.Prelude.{nat_le, IfOk, IsErrOf}
 use Rattle.std.proofs.lemmas.Bool.{leb-true}
 use Rattle.std.proofs.lemmas.Option.{cond_some}
-use Rattle.tm_text.specs.declared.exercises.Declared.{Declared}
-use Rattle.tm_text.specs.declared.refusals.NoExercise.{NoExercise}
-use Rattle.tm_text.specs.declared.refusals.NoExercise.TheVariants as no
-use Rattle.tm_text.specs.declared.sentences.Sentence.{Sentence}
+use Rattle.tm_text.specs.declared.exercises.Declaration.{Declaration}
+use Rattle.tm_text.specs.declared.limits.TheConstants.{MOST_BYTES, MOST_OBJECTS}
+use Rattle.tm_text.specs.declared.no_exercises.NoExercise.{NoExercise}
+use Rattle.tm_text.specs.declared.no_exercises.NoExercise.TheVariants as no
+use Rattle.tm_text.specs.declared.parsed_lines.ParsedLine.{ParsedLine}
 use Rattle.tm_text.specs.Exercises.{ExerciseView}
 use Rattle.tm_text.specs.Grammar.{IsExercise, lines_of}
-use Rattle.tm_text.specs.Reading.{Gives, OneExercise, are_fit, are_short, declared_of, exercise_by, exercise_of, objects_of, programs_of, sentences_of, with_objects, with_programs}
-use Rattle.tm_text.proofs.Spelling.{AreSaid, both, kept, sentences_of-said}
-use Rattle.tm_text.proofs.Sound.{sentences-spelled, well_formed}
+use Rattle.tm_text.specs.Reading.{Gives, OneExercise, are_fit, are_short, declarations_of, exercise_by, exercise_of, objects_of, programs_of, parsed_lines_of, with_objects, with_programs}
+use Rattle.tm_text.proofs.SpelledLemmas.{AreSaid, both, kept, parsed_lines_of-said}
+use Rattle.tm_text.proofs.ReaderSoundLemmas.{parsed_lines-spelled, well_formed}
 use Rattle.tm_text.proofs.Complete.{exercise_of-complete}
 
--- the objects are those that the sentences declare, and few enough
-pub objects_are : (ss : List Sentence) (ds : List Declared) → objects_of ss ≡ Some ds → (declared_of 1 ss ≡ ds) × (length ds ≤ 256)
+-- the objects are those that the parsed lines declare, and few enough
+pub objects_are : (ss : List ParsedLine) (ds : List Declaration) → objects_of ss ≡ Some ds → (declarations_of 1 ss ≡ ds) × (length ds ≤ MOST_OBJECTS)
 objects_are ss ds e =
-    let s = cond_some (nat_le (length (declared_of 1 ss)) 256) (declared_of 1 ss) ds e in
-    let P : List Declared → Type 0 = λ l. length l ≤ 256 in
-    (s.1, subst P s.1 (leb-true (length (declared_of 1 ss)) 256 s.0))
+    let s = cond_some (nat_le (length (declarations_of 1 ss)) MOST_OBJECTS) (declarations_of 1 ss) ds e in
+    let P : List Declaration → Type 0 = λ l. length l ≤ MOST_OBJECTS in
+    (s.1, subst P s.1 (leb-true (length (declarations_of 1 ss)) MOST_OBJECTS s.0))
 
--- the parts of an exercise that sentences spell
-record AreParts (ss : List Sentence) (x : ExerciseView) : Type 0 where
-  declared : declared_of 1 ss ≡ x.objects
-  few : length x.objects ≤ 256
+-- the parts of an exercise that parsed lines spell
+record AreParts (ss : List ParsedLine) (x : ExerciseView) : Type 0 where
+  declared : declarations_of 1 ss ≡ x.objects
+  few : length x.objects ≤ MOST_OBJECTS
   fit : are_fit x.objects ≡ true
   programs : programs_of x.objects false ss ≡ Some x.programs
   short : are_short x.programs ≡ true
 
-parts_of : (ss : List Sentence) (x : ExerciseView) → exercise_by ss ≡ Some x → AreParts ss x
+parts_of : (ss : List ParsedLine) (x : ExerciseView) → exercise_by ss ≡ Some x → AreParts ss x
 parts_of ss x e =
     let objects = both (with_objects ss) (objects_of ss) x e in
     let ds = objects.0 in
@@ -47,19 +48,19 @@ parts_of ss x e =
     } in
     subst (AreParts ss) short.1 parts
 
-is_exercise : (bytes : List ℕ) (ss : List Sentence) (x : ExerciseView) → length bytes ≤ 1048576 → AreSaid (lines_of bytes) ss → AreParts ss x → IsExercise bytes x
+is_exercise : (bytes : List ℕ) (ss : List ParsedLine) (x : ExerciseView) → length bytes ≤ MOST_BYTES → AreSaid (lines_of bytes) ss → AreParts ss x → IsExercise bytes x
 is_exercise bytes ss x size said parts = record {
   size = size;
   printed = said.printed;
-  lines = said.spelled ∙ sentences-spelled ss x.objects x.programs parts.declared parts.programs;
+  lines = said.spelled ∙ parsed_lines-spelled ss x.objects x.programs parts.declared parts.programs;
   well_formed = well_formed ss x.objects x.programs said.named parts.declared parts.few parts.fit parts.programs parts.short;
 }
 
 exercise_of-sound : (bytes : List ℕ) (x : ExerciseView) → exercise_of bytes ≡ Some x → IsExercise bytes x
 exercise_of-sound bytes x e =
-    let sized = kept (nat_le (length bytes) 1048576) _ x e in
-    let s = both exercise_by (sentences_of (lines_of bytes)) x sized.1 in
-    is_exercise bytes s.0 x (leb-true (length bytes) 1048576 sized.0) (sentences_of-said (lines_of bytes) s.0 s.1) (parts_of s.0 x s.2)
+    let sized = kept (nat_le (length bytes) MOST_BYTES) _ x e in
+    let s = both exercise_by (parsed_lines_of (lines_of bytes)) x sized.1 in
+    is_exercise bytes s.0 x (leb-true (length bytes) MOST_BYTES sized.0) (parsed_lines_of-said (lines_of bytes) s.0 s.1) (parts_of s.0 x s.2)
 
 -- what was read is the text's exercise
 pub found : (bytes : List ℕ) (r : Result ExerciseView NoExercise) → Gives (λ x. x) r (exercise_of bytes) → IfOk r (λ x. IsExercise bytes x)

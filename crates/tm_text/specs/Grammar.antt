@@ -4,12 +4,13 @@ use Rattle.std.specs.List.{AllPass}
 use Rattle.tm_base.specs.declared.operations.Op.TheVariants as op
 use Rattle.tm_base.specs.declared.kinds.Kind.{Kind}
 use Rattle.tm_base.specs.declared.kinds.Kind.TheVariants as kind
-use Rattle.tm_text.specs.declared.exercises.Declared.{Declared}
+use Rattle.tm_text.specs.declared.exercises.Declaration.{Declaration}
 use Rattle.tm_text.specs.declared.exercises.Statement.{Statement}
 use Rattle.tm_text.specs.declared.exercises.Statement.TheVariants as statement
+use Rattle.tm_text.specs.declared.limits.TheConstants.{MOST_BYTES}
 use Rattle.tm_text.specs.Exercises.{ExerciseView, IsWellFormed, program_of}
 
--- The lists with the byte in front of the first, or alone where there is none.
+-- The lists with the byte in front of the first, or a list of the byte alone where there is none.
 abbrev pub put_first : ℕ → List (List ℕ) → List (List ℕ)
 put_first b [] = (b ∷ []) ∷ []
 put_first b (l ∷ ls) = (b ∷ l) ∷ ls
@@ -29,8 +30,8 @@ without_cr (b ∷ c ∷ bs) = b ∷ without_cr (c ∷ bs)
 abbrev pub is_blank : ℕ → Bool
 is_blank b = b == 32 || b == 9
 
--- The byte, which is no blank, begins a word of its own before a blank or the end, and else the word of
--- the byte after it.
+-- The words of a byte that is no blank and the rest of its line, whose words are given: the byte is
+-- a word of its own before a blank or the end, and else the first byte of the first word.
 abbrev pub put_word : ℕ → List ℕ → List (List ℕ) → List (List ℕ)
 put_word b [] ws = (b ∷ []) ∷ ws
 put_word b (c ∷ bs) ws = if is_blank c then (b ∷ []) ∷ ws else put_first b ws
@@ -41,41 +42,44 @@ words_of [] = []
 words_of (b ∷ bs) = if is_blank b then words_of bs else put_word b bs (words_of bs)
 
 -- A line without words is ignored, and so is one whose first word begins with `#`.
-abbrev pub is_comment : List (List ℕ) → Bool
-is_comment [] = true
-is_comment ([] ∷ ws) = false
-is_comment ((b ∷ bs) ∷ ws) = b == 35
+abbrev pub is_ignored : List (List ℕ) → Bool
+is_ignored [] = true
+is_ignored ([] ∷ ws) = false
+is_ignored ((b ∷ bs) ∷ ws) = b == 35
 
--- The lines that say something.
+-- The lines that aren't ignored, each without its CR.
 abbrev pub said_lines : List ℕ → List (List ℕ)
-said_lines bytes = filter (λ line. not (is_comment (words_of line))) (map without_cr (lines_of bytes))
+said_lines bytes = filter (λ line. not (is_ignored (words_of line))) (map without_cr (lines_of bytes))
 
 -- A byte that such a line may have: a tab, or one that prints.
 abbrev pub is_printed : ℕ → Bool
 is_printed b = b == 9 || (nat_le 32 b && nat_le b 126)
 
--- The name that the object was declared with.
-abbrev pub name_at : Option Declared → List ℕ
+-- The name of a declared object, and no bytes where there is none.
+abbrev pub name_at : Option Declaration → List ℕ
 name_at None = []
 name_at (Some d) = d.name
 
-abbrev pub name_of : List Declared → ℕ → List ℕ
+-- The name of the object with this number.
+abbrev pub name_of : List Declaration → ℕ → List ℕ
 name_of ds o = name_at (slice_get ds o)
 
 -- The words of a statement's line.
-abbrev pub statement_words : List Declared → Statement → List (List ℕ)
+abbrev pub statement_words : List Declaration → Statement → List (List ℕ)
 statement_words ds (statement.Call object op.Lock) = codes "lock" ∷ name_of ds object ∷ []
 statement_words ds (statement.Call object op.Unlock) = codes "unlock" ∷ name_of ds object ∷ []
 statement_words ds s = []
 
--- The lines, as words, that declare an object of a kind: one, and for a thread its program's and `end`.
+-- The lines, as words, that declare an object of a kind: one, and for a thread its program's and
+-- `end`.
 abbrev pub block_of_kind : ExerciseView → List ℕ → Kind → List (List (List ℕ))
 block_of_kind x name kind.Mutex = (codes "mutex" ∷ name ∷ []) ∷ []
 block_of_kind x name (kind.Thread own held) =
     (codes "thread" ∷ name ∷ []) ∷ map (statement_words x.objects) (program_of x own) ++ (codes "end" ∷ []) ∷ []
 block_of_kind x name k = []
 
-abbrev pub block_of : ExerciseView → Declared → List (List (List ℕ))
+-- The lines, as words, that declare an object.
+abbrev pub block_of : ExerciseView → Declaration → List (List (List ℕ))
 block_of x d = block_of_kind x d.name d.kind
 
 -- The lines, as words, that spell an exercise: those of each object in order.
@@ -84,7 +88,7 @@ spelled x = flat_map (block_of x) x.objects
 
 -- The bytes are a text of the exercise.
 pub record IsExercise (bytes : List ℕ) (x : ExerciseView) : Type 0 where
-  pub size : length bytes ≤ 1048576
+  pub size : length bytes ≤ MOST_BYTES
   pub printed : All (λ line. AllPass is_printed line) (said_lines bytes)
   pub lines : map words_of (said_lines bytes) ≡ spelled x
   pub well_formed : IsWellFormed x

@@ -2,40 +2,35 @@ ghost use Rattle.std.specs.Prelude.{◌≡◌, ◌≤◌, ◌∷◌, List, false
 ghost use Rattle.std.specs.List.{list_all};
 ghost use Rattle.tm_text.specs.Reading.{Fails, Gives, are_short, is_short, call_of, mutex_from, programs_of, spelled_after};
 
-use crate::exercises::{Declared, Statement};
-use crate::refusals::NoExercise;
-use crate::sentences::Sentence;
+use crate::exercises::{Declaration, Statement};
+use crate::limits::{MOST_OBJECTS, MOST_STATEMENTS};
+use crate::no_exercises::NoExercise;
+use crate::parsed_lines::ParsedLine;
 use std::alloc::Global;
-use tm_base::{Kind, Name, Op};
+use tm_base::{Kind, MOST_THREADS, Name, Op};
 
-/// How many threads an exercise may have.
-const MOST_THREADS: usize = 64;
-
-/// How many statements a program may have.
-const MOST_STATEMENTS: usize = 4096;
-
-/// The programs of the threads that were closed, and that of the thread that is open, if one is.
+/// The programs of the threads that were closed, and that of the thread that is open, where one is.
 #[derive(Drop)]
 struct Blocks {
     closed: Vec<Vec<Statement>>,
     begun: Option<Vec<Statement>>,
 }
 
-/// The programs of the threads that the sentences declare, in order.
+/// The programs of the threads that the parsed lines declare, in order.
 pub fn programs(
     alloc: Global,
-    objects: &[Declared],
-    sentences: &[Sentence],
+    objects: &[Declaration],
+    parsed_lines: &[ParsedLine],
 ) -> Result<Vec<Vec<Statement>>, NoExercise>
-    requires { length objects.now ≤ 256 }
-    ensures { Gives (λ v. map (λ p. p.items) v.items) result (programs_of objects.now false sentences.now) }
+    requires { length objects.now ≤ MOST_OBJECTS }
+    ensures { Gives (λ v. map (λ p. p.items) v.items) result (programs_of objects.now false parsed_lines.now) }
 {
     let mut blocks = Blocks {
         closed: Vec::new(alloc),
         begun: None,
     };
-    for sentence in sentences {
-        blocks = step(alloc, objects, blocks, *sentence)?;
+    for parsed_line in parsed_lines {
+        blocks = step(alloc, objects, blocks, *parsed_line)?;
     }
     match blocks.begun {
         None => Ok(blocks.closed),
@@ -43,63 +38,63 @@ pub fn programs(
     }
 }
 
-/// Goes on by one sentence.
+/// Goes on by one parsed line.
 fn step(
     alloc: Global,
-    objects: &[Declared],
+    objects: &[Declaration],
     blocks: Blocks,
-    sentence: Sentence,
+    parsed_line: ParsedLine,
 ) -> Result<Blocks, NoExercise>
-    requires { length objects.now ≤ 256 }
-    ensures { (ss : List Sentence) → MatchResult result
+    requires { length objects.now ≤ MOST_OBJECTS }
+    ensures { (ss : List ParsedLine) → MatchResult result
         (λ b. spelled_after objects.now (map (λ p. p.items) b.closed.items) (option_map (λ p. p.items) b.begun) ss
-        ≡ spelled_after objects.now (map (λ p. p.items) blocks.closed.items) (option_map (λ p. p.items) blocks.begun) (sentence ∷ ss))
-        (λ e. Fails e (spelled_after objects.now (map (λ p. p.items) blocks.closed.items) (option_map (λ p. p.items) blocks.begun) (sentence ∷ ss))) }
+        ≡ spelled_after objects.now (map (λ p. p.items) blocks.closed.items) (option_map (λ p. p.items) blocks.begun) (parsed_line ∷ ss))
+        (λ e. Fails e (spelled_after objects.now (map (λ p. p.items) blocks.closed.items) (option_map (λ p. p.items) blocks.begun) (parsed_line ∷ ss))) }
 {
     let Blocks { closed, begun } = blocks;
     match begun {
-        None => step_outside(alloc, closed, sentence),
-        Some(program) => step_inside(objects, closed, program, sentence),
+        None => step_outside(alloc, closed, parsed_line),
+        Some(program) => step_inside(objects, closed, program, parsed_line),
     }
 }
 
-/// Goes on by one sentence where no thread is open.
+/// Goes on by one parsed line where no thread is open.
 fn step_outside(
     alloc: Global,
     closed: Vec<Vec<Statement>>,
-    sentence: Sentence,
+    parsed_line: ParsedLine,
 ) -> Result<Blocks, NoExercise>
     ensures text { IfErr result (λ e. e ≡ NoExercise.Text) }
-    ensures goes_on { (ds : List Declared) (ss : List Sentence) → MatchResult result
+    ensures goes_on { (ds : List Declaration) (ss : List ParsedLine) → MatchResult result
         (λ b. spelled_after ds (map (λ p. p.items) b.closed.items) (option_map (λ p. p.items) b.begun) ss
-        ≡ spelled_after ds (map (λ p. p.items) closed.items) None (sentence ∷ ss))
-        (λ e. Fails e (spelled_after ds (map (λ p. p.items) closed.items) None (sentence ∷ ss))) }
+        ≡ spelled_after ds (map (λ p. p.items) closed.items) None (parsed_line ∷ ss))
+        (λ e. Fails e (spelled_after ds (map (λ p. p.items) closed.items) None (parsed_line ∷ ss))) }
 {
-    let begun = match sentence {
-        Sentence::Mutex(_) => None,
-        Sentence::Thread(_) => Some(Vec::new(alloc)),
+    let begun = match parsed_line {
+        ParsedLine::Mutex(_) => None,
+        ParsedLine::Thread(_) => Some(Vec::new(alloc)),
         _ => return Err(NoExercise::Text),
     };
     Ok(Blocks { closed, begun })
 }
 
-/// Goes on by one sentence where a thread is open.
+/// Goes on by one parsed line where a thread is open.
 fn step_inside(
-    objects: &[Declared],
+    objects: &[Declaration],
     mut closed: Vec<Vec<Statement>>,
     mut program: Vec<Statement>,
-    sentence: Sentence,
+    parsed_line: ParsedLine,
 ) -> Result<Blocks, NoExercise>
-    requires { length objects.now ≤ 256 }
-    ensures { (ss : List Sentence) → MatchResult result
+    requires { length objects.now ≤ MOST_OBJECTS }
+    ensures { (ss : List ParsedLine) → MatchResult result
         (λ b. spelled_after objects.now (map (λ p. p.items) b.closed.items) (option_map (λ p. p.items) b.begun) ss
-        ≡ spelled_after objects.now (map (λ p. p.items) closed.items) (Some program.items) (sentence ∷ ss))
-        (λ e. Fails e (spelled_after objects.now (map (λ p. p.items) closed.items) (Some program.items) (sentence ∷ ss))) }
+        ≡ spelled_after objects.now (map (λ p. p.items) closed.items) (Some program.items) (parsed_line ∷ ss))
+        (λ e. Fails e (spelled_after objects.now (map (λ p. p.items) closed.items) (Some program.items) (parsed_line ∷ ss))) }
 {
-    match sentence {
-        Sentence::Lock(name) => program.push(call(objects, name, Op::Lock)?)?,
-        Sentence::Unlock(name) => program.push(call(objects, name, Op::Unlock)?)?,
-        Sentence::End => {
+    match parsed_line {
+        ParsedLine::Lock(name) => program.push(call(objects, name, Op::Lock)?)?,
+        ParsedLine::Unlock(name) => program.push(call(objects, name, Op::Unlock)?)?,
+        ParsedLine::End => {
             closed.push(program)?;
             return Ok(Blocks {
                 closed,
@@ -115,8 +110,8 @@ fn step_inside(
 }
 
 /// The call of an operation on the mutex with this name.
-fn call(objects: &[Declared], name: Name, op: Op) -> Result<Statement, NoExercise>
-    requires { length objects.now ≤ 256 }
+fn call(objects: &[Declaration], name: Name, op: Op) -> Result<Statement, NoExercise>
+    requires { length objects.now ≤ MOST_OBJECTS }
     ensures value { Gives (λ s. s) result (call_of objects.now op name) }
     ensures text { IfErr result (λ e. e ≡ NoExercise.Text) }
 {
@@ -127,8 +122,8 @@ fn call(objects: &[Declared], name: Name, op: Op) -> Result<Statement, NoExercis
 }
 
 /// The number of the mutex with this name.
-fn mutex(objects: &[Declared], name: Name) -> Option<u32>
-    requires { length objects.now ≤ 256 }
+fn mutex(objects: &[Declaration], name: Name) -> Option<u32>
+    requires { length objects.now ≤ MOST_OBJECTS }
     ensures { result ≡ mutex_from 0 name objects.now }
 {
     for (object, declared) in objects.iter().enumerate() {
@@ -139,7 +134,7 @@ fn mutex(objects: &[Declared], name: Name) -> Option<u32>
     None
 }
 
-/// Whether there are few enough programs, and each is short enough.
+/// Whether there are at most `MOST_THREADS` programs, and each is short enough.
 pub fn are_short(programs: &[Vec<Statement>]) -> bool
     ensures { result ≡ are_short (map (λ p. p.items) programs.now) }
 {
@@ -158,7 +153,7 @@ fn are_each_short(programs: &[Vec<Statement>]) -> bool
     true
 }
 
-/// Whether the program is short enough.
+/// Whether the program has at most `MOST_STATEMENTS` statements.
 fn is_short(program: &[Statement]) -> bool
     ensures { result ≡ is_short program.now }
 {

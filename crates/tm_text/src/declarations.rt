@@ -3,23 +3,21 @@ ghost use Rattle.std.specs.List.{list_any};
 ghost use Rattle.std.specs.Str.{bytes_eq};
 ghost use Rattle.tm_text.specs.Reading.{Gives, are_fit, declaration_of, objects_of, owns_of};
 
-use crate::exercises::Declared;
-use crate::refusals::NoExercise;
-use crate::sentences::Sentence;
+use crate::exercises::Declaration;
+use crate::limits::MOST_OBJECTS;
+use crate::no_exercises::NoExercise;
+use crate::parsed_lines::ParsedLine;
 use std::alloc::{AllocError, Global};
 use tm_base::Kind;
 
-/// How many objects an exercise may have.
-const MOST_OBJECTS: usize = 256;
-
-/// The objects that the sentences declare, in order, with threads numbered from 1.
-pub fn objects(alloc: Global, sentences: &[Sentence]) -> Result<Vec<Declared>, NoExercise>
-    ensures { Gives (λ v. v.items) result (objects_of sentences.now) }
+/// The objects that the parsed lines declare, in order, with threads numbered from 1.
+pub fn objects(alloc: Global, parsed_lines: &[ParsedLine]) -> Result<Vec<Declaration>, NoExercise>
+    ensures { Gives (λ v. v.items) result (objects_of parsed_lines.now) }
 {
     let mut objects = Vec::new(alloc);
     let mut thread = 1;
-    for sentence in sentences {
-        let Some(declared) = declaration(*sentence, thread) else {
+    for parsed_line in parsed_lines {
+        let Some(declared) = declaration(*parsed_line, thread) else {
             continue;
         };
         if objects.len() >= MOST_OBJECTS {
@@ -33,16 +31,16 @@ pub fn objects(alloc: Global, sentences: &[Sentence]) -> Result<Vec<Declared>, N
     Ok(objects)
 }
 
-/// The object that the sentence declares, and in it the thread, if it is one.
-fn declaration(sentence: Sentence, thread: u32) -> Option<Declared>
-    ensures { result ≡ declaration_of thread sentence }
+/// The object that the parsed line declares, where the next thread has this number.
+fn declaration(parsed_line: ParsedLine, thread: u32) -> Option<Declaration>
+    ensures { result ≡ declaration_of thread parsed_line }
 {
-    match sentence {
-        Sentence::Mutex(name) => Some(Declared {
+    match parsed_line {
+        ParsedLine::Mutex(name) => Some(Declaration {
             name,
             kind: Kind::Mutex,
         }),
-        Sentence::Thread(name) => Some(Declared {
+        ParsedLine::Thread(name) => Some(Declaration {
             name,
             kind: Kind::Thread {
                 own: thread,
@@ -54,7 +52,7 @@ fn declaration(sentence: Sentence, thread: u32) -> Option<Declared>
 }
 
 /// Whether no object is named `main`, and no two have one name.
-pub fn are_fit(objects: &[Declared]) -> bool
+pub fn are_fit(objects: &[Declaration]) -> bool
     ensures { result ≡ are_fit objects.now }
 {
     let mut rest = objects;
@@ -69,15 +67,15 @@ pub fn are_fit(objects: &[Declared]) -> bool
 }
 
 /// Whether an object has this name.
-fn is_named(objects: &[Declared], name: &[u8]) -> bool
+fn is_named(objects: &[Declaration], name: &[u8]) -> bool
     ensures { result ≡ list_any (λ d. bytes_eq d.name name.now) objects.now }
 {
     objects.iter().any(|d| d.name.bytes() == name)
 }
 
 /// The numbers of the threads' own objects.
-pub fn owns(alloc: Global, objects: &[Declared]) -> Result<Vec<u32>, AllocError>
-    requires { length objects.now ≤ 256 }
+pub fn owns(alloc: Global, objects: &[Declaration]) -> Result<Vec<u32>, AllocError>
+    requires { length objects.now ≤ MOST_OBJECTS }
     ensures { IfOk result (λ v. v.items ≡ owns_of 0 objects.now) }
 {
     let mut owns = Vec::new(alloc);

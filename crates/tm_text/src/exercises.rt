@@ -6,7 +6,7 @@ use tm_base::{Kind, Name, Op};
 
 /// An object as the text declares it. A thread's object has the thread's name.
 #[derive(Clone, Copy, Debug, PartialEq, Eq)]
-pub struct Declared {
+pub struct Declaration {
     pub name: Name,
     pub kind: Kind,
 }
@@ -14,15 +14,15 @@ pub struct Declared {
 /// A statement of a program.
 #[derive(Clone, Copy, Debug, PartialEq, Eq)]
 pub enum Statement {
-    /// Asks for an operation on an object.
+    /// A call of an operation on an object.
     Call { object: u32, op: Op },
 }
 
-/// An exercise: objects with names and kinds, in order of declaration, and one program per thread.
-/// Objects count from 0 and threads from 1; each thread has an object of its own.
+/// An exercise: objects with names and kinds, in order of declaration, and a program for each
+/// thread. Objects count from 0 and threads from 1; each thread has an object of its own.
 #[derive(Debug, Drop)]
 pub struct Exercise {
-    objects: Vec<Declared>,
+    objects: Vec<Declaration>,
     programs: Vec<Vec<Statement>>,
     owns: Vec<u32>,
 }
@@ -40,9 +40,10 @@ impl Model for Exercise {
 }
 
 impl Exercise {
-    /// The exercise of these objects and programs. `owns` has the numbers of the threads' own objects.
+    /// The exercise of these objects and programs. `owns` has the numbers of the threads' own
+    /// objects.
     pub(crate) fn from_parts(
-        objects: Vec<Declared>,
+        objects: Vec<Declaration>,
         programs: Vec<Vec<Statement>>,
         owns: Vec<u32>,
     ) -> Exercise
@@ -58,7 +59,7 @@ impl Exercise {
         }
     }
 
-    /// How many threads its programs are for, `main` not counted: 0 to 64.
+    /// How many threads it has, `main` not counted: at most `MOST_THREADS`.
     pub fn threads(&self) -> u32
         ensures value { result ≡ length self.now.programs }
         ensures well_formed { IsWellFormed self.now }
@@ -66,7 +67,7 @@ impl Exercise {
         self.programs.len() as u32
     }
 
-    /// How many objects it has, threads' own objects counted: 0 to 256.
+    /// How many objects it has, threads' own objects counted: at most `MOST_OBJECTS`.
     pub fn objects(&self) -> u32
         ensures value { result ≡ length self.now.objects }
         ensures well_formed { IsWellFormed self.now }

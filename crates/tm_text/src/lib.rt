@@ -4,15 +4,17 @@
 mod blocks;
 mod declarations;
 mod exercises;
+mod limits;
 mod lines;
+mod no_exercises;
+mod parsed_lines;
 mod reader;
-mod refusals;
 mod scripts;
-mod sentences;
 
-pub use exercises::{Declared, Exercise, Statement};
+pub use exercises::{Declaration, Exercise, Statement};
+pub use limits::{MOST_BYTES, MOST_OBJECTS, MOST_STATEMENTS};
+pub use no_exercises::NoExercise;
 pub use reader::{one_exercise, read};
-pub use refusals::NoExercise;
 pub use scripts::Script;
 
 #[cfg(test)]

@@ -1,9 +1,9 @@
 ghost use Rattle.std.specs.Prelude.{◌≡◌, ◌<◌, ◌∷◌, [], length, MatchOption};
 ghost use Rattle.std.specs.List.{list_all, position_or_len, prefix_len};
-ghost use Rattle.tm_text.specs.Grammar.{is_blank, is_comment, is_printed, lines_of, without_cr, words_of};
+ghost use Rattle.tm_text.specs.Grammar.{is_blank, is_ignored, is_printed, lines_of, without_cr, words_of};
 ghost use Rattle.tm_text.specs.Reading.{is_lf};
 
-/// The first line of bytes, without its LF, and the bytes after it.
+/// The first line of the bytes, without its LF, and the bytes after it.
 pub fn first_line(bytes: &[u8]) -> (&[u8], &[u8])
     requires { 0 < length bytes.now }
     ensures lines { lines_of bytes.now ≡ result.0.now ∷ lines_of result.1.now }
@@ -23,7 +23,7 @@ pub fn without_cr(line: &[u8]) -> &[u8]
 {
     match line.strip_suffix(b"\r".as_slice()) {
         None => line,
-        Some(front) => front,
+        Some(prefix) => prefix,
     }
 }
 
@@ -39,9 +39,9 @@ pub fn first_word(line: &[u8]) -> Option<(&[u8], &[u8])>
     Some(rest.split_at(word_len(rest)))
 }
 
-/// Whether the line says nothing: it has no word, or its first word begins with `#`.
-pub fn is_comment(line: &[u8]) -> bool
-    ensures { result ≡ is_comment (words_of line.now) }
+/// Whether the line is ignored: it has no word, or its first word begins with `#`.
+pub fn is_ignored(line: &[u8]) -> bool
+    ensures { result ≡ is_ignored (words_of line.now) }
 {
     match first_word(line) {
         None => true,

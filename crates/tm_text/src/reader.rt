@@ -7,15 +7,13 @@ ghost use Rattle.tm_text.specs.Reading.{Gives, IsNamed, OneExercise, exercise_by
 use crate::blocks::{are_short, programs};
 use crate::declarations::{are_fit, objects, owns};
 use crate::exercises::Exercise;
-use crate::refusals::NoExercise;
-use crate::sentences::{Sentence, sentences};
+use crate::limits::MOST_BYTES;
+use crate::no_exercises::NoExercise;
+use crate::parsed_lines::{ParsedLine, parsed_lines};
 use std::alloc::Global;
 
-/// How many bytes a text may have.
-const MOST_BYTES: usize = 1_048_576;
-
 /// The exercise whose text the bytes are. `Text` exactly where they are the text of none, and
-/// `NoMemory` only where memory was wanting.
+/// `NoMemory` only where memory ran out.
 pub fn read(alloc: Global, bytes: &[u8]) -> Result<Exercise, NoExercise>
     ensures read { IfOk result (λ x. IsExercise bytes.now x) }
     ensures refused { IsErrOf result NoExercise.Text → (x : ExerciseView) → ¬ IsExercise bytes.now x }
@@ -23,27 +21,27 @@ pub fn read(alloc: Global, bytes: &[u8]) -> Result<Exercise, NoExercise>
     exercise(alloc, bytes)
 }
 
-/// The exercise of the text, by its lines.
+/// The exercise of the text.
 fn exercise(alloc: Global, bytes: &[u8]) -> Result<Exercise, NoExercise>
     ensures { Gives (λ x. x) result (exercise_of bytes.now) }
 {
     if bytes.len() > MOST_BYTES {
         return Err(NoExercise::Text);
     }
-    let sentences = sentences(alloc, bytes)?;
-    spelled(alloc, sentences.as_slice())
+    let parsed_lines = parsed_lines(alloc, bytes)?;
+    spelled(alloc, parsed_lines.as_slice())
 }
 
-/// The exercise that the sentences spell.
-fn spelled(alloc: Global, sentences: &[Sentence]) -> Result<Exercise, NoExercise>
-    requires { AllByRecursion IsNamed sentences.now }
-    ensures { Gives (λ x. x) result (exercise_by sentences.now) }
+/// The exercise that the parsed lines spell.
+fn spelled(alloc: Global, parsed_lines: &[ParsedLine]) -> Result<Exercise, NoExercise>
+    requires { AllByRecursion IsNamed parsed_lines.now }
+    ensures { Gives (λ x. x) result (exercise_by parsed_lines.now) }
 {
-    let objects = objects(alloc, sentences)?;
+    let objects = objects(alloc, parsed_lines)?;
     if !are_fit(objects.as_slice()) {
         return Err(NoExercise::Text);
     }
-    let programs = programs(alloc, objects.as_slice(), sentences)?;
+    let programs = programs(alloc, objects.as_slice(), parsed_lines)?;
     if !are_short(programs.as_slice()) {
         return Err(NoExercise::Text);
     }

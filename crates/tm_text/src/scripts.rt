@@ -1,6 +1,6 @@
 ghost use Rattle.std.specs.Prelude.{◌≡◌, ◌≤◌, [], drop, length, IfOk};
 ghost use Rattle.tm_text.specs.Exercises.{program_of};
-ghost use Rattle.tm_text.specs.Programs.{whole, answered, asked_of, left_after};
+ghost use Rattle.tm_text.specs.Programs.{whole, answered, asked_of, left_after, next_ask};
 
 use crate::exercises::{Exercise, Statement};
 use std::alloc::Global;
@@ -51,11 +51,15 @@ impl Script {
         }
     }
 
-    /// What the program asks next.
-    pub fn asked(&self) -> Ask
-        ensures { result ≡ asked_of self.now.left }
+    /// What the program asks next: a call, or nothing more. `None` exactly after the reply
+    /// `Stopped`, after which nothing is asked.
+    pub fn asked(&self) -> Option<Ask>
+        ensures { result ≡ asked_of self.now }
     {
-        next_ask(self.program.as_slice(), self.done)
+        if matches!(self.last, Some(Reply::Stopped)) {
+            return None;
+        }
+        Some(next_ask(self.program.as_slice(), self.done))
     }
 
     /// The last final reply: that of `begin`, or of the last call that has one.
@@ -76,7 +80,7 @@ impl Script {
 
 /// What the statements from this one on ask next.
 fn next_ask(program: &[Statement], done: usize) -> Ask
-    ensures { result ≡ asked_of (drop done program.now) }
+    ensures { result ≡ next_ask (drop done program.now) }
 {
     if done >= program.len() {
         return Ask::Over;

@@ -2,7 +2,7 @@ use super::*;
 use std::alloc::Global;
 use std::process::Abort;
 use std::test::Fail;
-use tm_base::{Ask, Kind, Op};
+use tm_base::{Ask, Kind, Op, Reply};
 
 /// Whether the text is taken.
 fn takes(alloc: Global, text: &[u8]) -> Result<bool, Fail> {
@@ -14,7 +14,7 @@ fn takes(alloc: Global, text: &[u8]) -> Result<bool, Fail> {
 }
 
 #[test]
-fn reads(rt: HostRuntime) -> Result<(), Fail> {
+fn an_exercise_is_read_with_its_names_kinds_and_programs(rt: HostRuntime) -> Result<(), Fail> {
     let text = b"mutex m\nthread A\nlock m\nunlock m\nend\nthread B\nlock m\nunlock m\nend\n";
     let exercise = read(rt.alloc(), text)?;
     assert_eq!(rt; exercise.threads(), 2);
@@ -31,19 +31,22 @@ fn reads(rt: HostRuntime) -> Result<(), Fail> {
     );
     assert_eq!(rt; exercise.own(1), 1);
     assert_eq!(rt; exercise.own(2), 2);
-    let script = Script::make(rt.alloc(), &exercise, 2)?;
+    let mut script = Script::make(rt.alloc(), &exercise, 2)?;
     assert_eq!(rt;
         script.asked(),
-        Ask::Call {
+        Some(Ask::Call {
             object: 0,
             op: Op::Lock
-        }
+        })
     );
+    script.answer(Reply::Ok);
+    script.answer(Reply::Stopped);
+    assert_eq!(rt; script.asked(), None);
     Ok(())
 }
 
 #[test]
-fn refuses(rt: HostRuntime) -> Result<(), Fail> {
+fn texts_of_no_exercise_are_refused(rt: HostRuntime) -> Result<(), Fail> {
     let texts = [
         "m",
         "mutex",
@@ -68,7 +71,7 @@ fn refuses(rt: HostRuntime) -> Result<(), Fail> {
 }
 
 #[test]
-fn takes_oddities(rt: HostRuntime) -> Result<(), Fail> {
+fn blanks_comments_and_carriage_returns_are_taken(rt: HostRuntime) -> Result<(), Fail> {
     let texts = [
         "",
         "\n",
@@ -96,10 +99,40 @@ fn long(alloc: Global, statements: usize) -> Result<String, Fail> {
 }
 
 #[test]
-fn counts_statements(rt: HostRuntime) -> Result<(), Fail> {
+fn a_program_has_4096_statements_at_most(rt: HostRuntime) -> Result<(), Fail> {
     let text = long(rt.alloc(), 4096)?;
     assert!(rt; takes(rt.alloc(), text.as_bytes())?);
     let text = long(rt.alloc(), 4097)?;
     assert!(rt; !takes(rt.alloc(), text.as_bytes())?);
+    Ok(())
+}
+
+/// A text that declares this many objects: each by the word, a name and these lines.
+fn declaring(alloc: Global, word: &str, lines: &str, count: u32) -> Result<String, Fail> {
+    let mut text = String::new(alloc);
+    for number in 0..count {
+        let object = format!(in alloc; "{word} a{number}\n{lines}")?;
+        text.push_str(object.as_str())?;
+    }
+    Ok(text)
+}
+
+#[test]
+fn an_exercise_has_256_objects_and_64_threads_at_most(rt: HostRuntime) -> Result<(), Fail> {
+    for (word, lines, most) in [("mutex", "", 256u32), ("thread", "end\n", 64)] {
+        let text = declaring(rt.alloc(), word, lines, most)?;
+        assert!(rt; takes(rt.alloc(), text.as_bytes())?);
+        let text = declaring(rt.alloc(), word, lines, most + 1)?;
+        assert!(rt; !takes(rt.alloc(), text.as_bytes())?);
+    }
+    Ok(())
+}
+
+#[test]
+fn a_text_has_1048576_bytes_at_most(rt: HostRuntime) -> Result<(), Fail> {
+    let mut text = vec![in rt.alloc(); b'#'; 1_048_577]?;
+    assert!(rt; !takes(rt.alloc(), text.as_slice())?);
+    text.pop();
+    assert!(rt; takes(rt.alloc(), text.as_slice())?);
     Ok(())
 }

@@ -6,9 +6,9 @@ use Rattle.tm_base.specs.declared.operations.Op.{Op}
 use Rattle.tm_base.specs.declared.operations.Op.TheVariants as op
 use Rattle.tm_base.specs.declared.replies.Reply.{Reply}
 use Rattle.tm_base.specs.declared.replies.Reply.TheVariants as reply
-use Rattle.tm_base.specs.declared.outcomes.Bar.{Bar}
-use Rattle.tm_base.specs.declared.outcomes.End.{End}
-use Rattle.tm_base.specs.declared.outcomes.End.TheVariants as end
+use Rattle.tm_base.specs.declared.bars.Bar.{Bar}
+use Rattle.tm_base.specs.declared.ends.End.{End}
+use Rattle.tm_base.specs.declared.ends.End.TheVariants as end
 use Rattle.tm_text.specs.Exercises.{ExerciseView, own_of}
 use Rattle.tm_text.specs.Grammar.{name_of}
 use Rattle.tm_timeline.specs.Words.{op_word, reply_word, bar_letter, end_word}
@@ -38,13 +38,14 @@ detail_text x (reply.Gave thread) = codes " " ++ thread_name x thread
 detail_text x (reply.Got value) = codes " " ++ signed_decimal value
 detail_text x r = []
 
--- The thread's name and the event's place in it, and the object's name and the event's place at it.
+-- An event's places: the thread's name and the place in the thread, the object's name and the place
+-- there.
 abbrev pub places_text : ExerciseView → Entry → List ℕ
 places_text x e =
     thread_name x e.thread ++ codes "." ++ decimal e.place ++ codes " "
     ++ name_of x.objects e.object ++ codes "." ++ decimal e.at
 
--- An event: its stamp, where it stands, the operation and the reply.
+-- An event: its stamp, its places, the operation and the reply.
 abbrev pub event_text : ExerciseView → Entry → List ℕ
 event_text x e =
     decimal e.stamp ++ codes " " ++ places_text x e ++ codes " "

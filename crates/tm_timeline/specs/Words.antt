@@ -4,10 +4,10 @@ use Rattle.tm_base.specs.declared.operations.Op.{Op}
 use Rattle.tm_base.specs.declared.operations.Op.TheVariants as op
 use Rattle.tm_base.specs.declared.replies.Reply.{Reply}
 use Rattle.tm_base.specs.declared.replies.Reply.TheVariants as reply
-use Rattle.tm_base.specs.declared.outcomes.Bar.{Bar}
-use Rattle.tm_base.specs.declared.outcomes.Bar.TheVariants as bar
-use Rattle.tm_base.specs.declared.outcomes.End.{End}
-use Rattle.tm_base.specs.declared.outcomes.End.TheVariants as end
+use Rattle.tm_base.specs.declared.bars.Bar.{Bar}
+use Rattle.tm_base.specs.declared.bars.Bar.TheVariants as bar
+use Rattle.tm_base.specs.declared.ends.End.{End}
+use Rattle.tm_base.specs.declared.ends.End.TheVariants as end
 
 -- The word of an operation.
 abbrev pub op_word : Op → List ℕ

@@ -8,7 +8,7 @@ use tm_base::{Bytes, End, NoMemory};
 use tm_text::Exercise;
 
 /// The last line of a run of `n` events: how it ended, and the names of the threads that were cut.
-/// Only want of memory refuses it.
+/// `NoMemory` only where memory runs out.
 pub fn last_line(
     alloc: Global,
     exercise: &Exercise,

@@ -9,7 +9,7 @@ use tm_base::{Bar, Bytes, Entry, NoMemory};
 use tm_text::Exercise;
 
 /// The row of an event: its number, from 1, what happened, and a letter for each thread, in rising
-/// number. Only want of memory refuses it.
+/// number. `NoMemory` only where memory runs out.
 pub fn row(
     alloc: Global,
     exercise: &Exercise,
@@ -56,7 +56,7 @@ fn push_event(
     push_detail(alloc, out, exercise, entry.reply)
 }
 
-/// Appends the thread with its place and the object with its own.
+/// Appends the thread and the object, each with the event's place in it.
 fn push_places(
     alloc: Global,
     out: &mut Vec<u8>,

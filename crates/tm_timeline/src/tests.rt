@@ -42,7 +42,7 @@ const GOT: Entry = Entry {
 };
 
 #[test]
-fn rows(rt: HostRuntime) -> Result<(), Fail> {
+fn a_row_prints_its_event_and_the_bars(rt: HostRuntime) -> Result<(), Fail> {
     let exercise = read(rt.alloc(), TEXT.as_bytes())?;
     assert_eq!(rt; exercise.objects(), 3);
     assert_eq!(rt; exercise.threads(), 2);
@@ -73,7 +73,7 @@ fn rows(rt: HostRuntime) -> Result<(), Fail> {
 }
 
 #[test]
-fn operations(rt: HostRuntime) -> Result<(), Fail> {
+fn each_operation_prints_its_word(rt: HostRuntime) -> Result<(), Fail> {
     let exercise = read(rt.alloc(), TEXT.as_bytes())?;
     assert_eq!(rt; exercise.objects(), 3);
     assert_eq!(rt; exercise.threads(), 2);
@@ -118,7 +118,7 @@ fn operations(rt: HostRuntime) -> Result<(), Fail> {
 }
 
 #[test]
-fn replies(rt: HostRuntime) {
+fn each_reply_prints_its_word(rt: HostRuntime) {
     let table = [
         (Reply::Ok, "ok"),
         (Reply::Wait, "wait"),
@@ -142,7 +142,7 @@ fn replies(rt: HostRuntime) {
 }
 
 #[test]
-fn last_lines(rt: HostRuntime) -> Result<(), Fail> {
+fn a_last_line_names_the_threads_that_were_cut(rt: HostRuntime) -> Result<(), Fail> {
     let exercise = read(rt.alloc(), TEXT.as_bytes())?;
     assert_eq!(rt; exercise.threads(), 2);
     let done = last_line(rt.alloc(), &exercise, End::Done, 18, &[])?;

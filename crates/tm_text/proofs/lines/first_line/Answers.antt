@@ -2,7 +2,7 @@ use Rattle.std.proofs.Common.{◌≡◌, drop, [], not, sym, add-one, arith}
 use Rattle.std.proofs.lemmas.List.Sums.{prefix_len-le-length}
 use Rattle.std.proofs.lemmas.List.{drop_all, take_rest}
 use Rattle.tm_text.specs.Reading.{is_lf}
-use Rattle.tm_text.proofs.Cuts.{lines_of-at, lines_of-last}
+use Rattle.tm_text.proofs.LinesLemmas.{lines_of-at, lines_of-last}
 use Rattle.tm_text.proofs.lines.first_line.Goals as goal
 
 pub slice_bounds-result-count-else-end-bytes : goal.slice_bounds-result-count-else-end-bytes

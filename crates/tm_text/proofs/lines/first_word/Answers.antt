@@ -3,7 +3,7 @@ use Rattle.std.proofs.lemmas.Bool.Decides.{nat_tests}
 use Rattle.std.proofs.lemmas.List.Sums.{prefix_len-le-length}
 use Rattle.std.proofs.lemmas.List.{drop_all, take_rest}
 use Rattle.tm_text.specs.Grammar.{is_blank, words_of}
-use Rattle.tm_text.proofs.Cuts.{words_of-first, words_of-drop}
+use Rattle.tm_text.proofs.LinesLemmas.{words_of-first, words_of-drop}
 use Rattle.tm_text.proofs.lines.first_word.Goals as goal
 
 pub slice_bounds-rest-count : goal.slice_bounds-rest-count

@@ -3,7 +3,7 @@ use Rattle.std.proofs.lemmas.List.{length-map}
 use Rattle.tm_text.specs.declared.exercises.Statement.{Statement}
 use Rattle.tm_text.specs.Reading.{are_fit, are_short, owns_of, programs_of}
 use Rattle.tm_text.proofs.OwnNumbers.{owns_are, owns_count}
-use Rattle.tm_text.proofs.Sound.{well_formed}
+use Rattle.tm_text.proofs.ReaderSoundLemmas.{well_formed}
 use Rattle.tm_text.proofs.Readings.{objects_are}
 use Rattle.tm_text.proofs.reader.spelled.Goals as goal
 
@@ -11,11 +11,11 @@ pub from_parts-requires-clause-well_formed : goal.from_parts-requires-clause-wel
 from_parts-requires-clause-well_formed c =
     let ds = c.in_ok-objects.objects.items in
     let ps : List (List Statement) = map (λ p. p.items) c.in_ok-programs.programs.items in
-    let are = objects_are c.args.sentences.now ds c.in_ok-objects.ensures in
+    let are = objects_are c.args.parsed_lines.now ds c.in_ok-objects.ensures in
     let fit : are_fit ds ≡ true = ap are_fit (sym c.as_slice.ensures.value) ∙ sym c.are_fit.ensures ∙ c.if-not-are_fit.false in
-    let programs : programs_of ds false c.args.sentences.now ≡ Some ps = ap (λ l. programs_of l false c.args.sentences.now) (sym c.as_slice-2.ensures.value) ∙ c.in_ok-programs.ensures in
+    let programs : programs_of ds false c.args.parsed_lines.now ≡ Some ps = ap (λ l. programs_of l false c.args.parsed_lines.now) (sym c.as_slice-2.ensures.value) ∙ c.in_ok-programs.ensures in
     let short : are_short ps ≡ true = ap (λ l. are_short (map (λ p. p.items) l)) (sym c.as_slice-3.ensures.value) ∙ sym c.are_short.ensures ∙ c.if-not-are_short.false in
-    well_formed c.args.sentences.now ds ps c.requires are.0 are.1 fit programs short
+    well_formed c.args.parsed_lines.now ds ps c.requires are.0 are.1 fit programs short
 
 pub from_parts-requires-clause-owns : goal.from_parts-requires-clause-owns
 from_parts-requires-clause-owns c t below =

@@ -1,6 +1,6 @@
 use Rattle.std.proofs.Common.{◌-◌, [], slice_index_or, arith, ap, sym}
 use Rattle.std.proofs.lemmas.Grind.{common_steps}
-use Rattle.tm_text.proofs.Programs.{program_of-at}
+use Rattle.tm_text.proofs.ProgramsLemmas.{program_of-at}
 use Rattle.tm_text.proofs.exercises.Exercise.program.Goals as goal
 
 pub returns : goal.returns

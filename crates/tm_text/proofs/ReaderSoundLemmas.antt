@@ -1,4 +1,4 @@
--- What the reader makes of sentences spells them, and is well formed.
+-- What the reader makes of parsed lines spells them, and is well formed.
 use Rattle.std.proofs.Common.{◌≡◌, ◌≢◌, ℕ, zero, suc, ◌+◌, ◌<◌, ◌≤◌, Bool, true, false, not, ◌&&◌, ◌||◌, List, [], ◌∷◌, ◌++◌, map, length, drop, slice_index_or, Option, Some, None, option_map, refl, sym, ap, ◌∙◌, subst, arith, append_assoc}
 use Rattle.std.specs.Prelude.{codes, flat_map, filter_map, slice_get, nat_le}
 use Rattle.std.specs.List.{AllByRecursion, list_all, list_any, range_with_len}
@@ -8,16 +8,18 @@ use Rattle.std.proofs.lemmas.Slice.Eq.{bytes_eq-Decides}
 use Rattle.tm_base.specs.declared.operations.Op.TheVariants as op
 use Rattle.tm_base.specs.declared.kinds.Kind.{Kind}
 use Rattle.tm_base.specs.declared.kinds.Kind.TheVariants as kind
+use Rattle.tm_base.specs.declared.limits.TheConstants.{MOST_THREADS}
 use Rattle.tm_base.specs.Names.{IsName}
-use Rattle.tm_text.specs.declared.exercises.Declared.{Declared}
+use Rattle.tm_text.specs.declared.exercises.Declaration.{Declaration}
 use Rattle.tm_text.specs.declared.exercises.Statement.{Statement}
 use Rattle.tm_text.specs.declared.exercises.Statement.TheVariants as statement
-use Rattle.tm_text.specs.declared.sentences.Sentence.{Sentence}
-use Rattle.tm_text.specs.declared.sentences.Sentence.TheVariants as says
+use Rattle.tm_text.specs.declared.limits.TheConstants.{MOST_OBJECTS, MOST_STATEMENTS}
+use Rattle.tm_text.specs.declared.parsed_lines.ParsedLine.{ParsedLine}
+use Rattle.tm_text.specs.declared.parsed_lines.ParsedLine.TheVariants as says
 use Rattle.tm_text.specs.Exercises.{ExerciseView, IsOfKind, IsStatement, IsKindRead, IsWellFormed, program_of, thread_of}
 use Rattle.tm_text.specs.Grammar.{block_of, name_at, name_of, statement_words, spelled}
-use Rattle.tm_text.specs.Reading.{IsNamed, are_fit, are_short, call_of, declared_of, is_mutex, is_mutex_kind, is_short, mutex_from, programs_of, put_call, put_statement}
-use Rattle.tm_text.proofs.Spelling.{sentence_words, both, chosen, mapped}
+use Rattle.tm_text.specs.Reading.{IsNamed, are_fit, are_short, call_of, declarations_of, is_mutex, is_mutex_kind, is_short, mutex_from, programs_of, put_call, put_statement}
+use Rattle.tm_text.proofs.SpelledLemmas.{parsed_line_words, both, chosen, mapped}
 
 -- the fact of the value, where there is one
 abbrev given : {X : Type 0} → (X → Type 0) → Option X → Type 0
@@ -40,10 +42,10 @@ both_true true b e = (refl, e)
 both_true false b e = absurd (false≢true e)
 
 -- the object was found where it is
-record IsFound (ds : List Declared) (k : ℕ) (name : List ℕ) (o : ℕ) : Type 0 where
+record IsFound (ds : List Declaration) (k : ℕ) (name : List ℕ) (o : ℕ) : Type 0 where
   place : ℕ
   from : o ≡ k + place
-  object : Declared
+  object : Declaration
   there : slice_get ds place ≡ Some object
   mutex : object.kind ≡ kind.Mutex
   named : object.name ≡ name
@@ -52,7 +54,7 @@ is_mutex_kind-Mutex : (k : Kind) → is_mutex_kind k ≡ true → k ≡ kind.Mut
 is_mutex_kind-Mutex kind.Mutex e = refl
 is_mutex_kind-Mutex _ e = absurd (false≢true e)
 
-mutex_from-found : (ds : List Declared) (k : ℕ) (name : List ℕ) (o : ℕ) → mutex_from k name ds ≡ Some o → IsFound ds k name o
+mutex_from-found : (ds : List Declaration) (k : ℕ) (name : List ℕ) (o : ℕ) → mutex_from k name ds ≡ Some o → IsFound ds k name o
 mutex_from-found [] k name o e = (cc)
 mutex_from-found (d ∷ ds) k name o e =
     chosen (is_mutex name d) k (mutex_from (k + 1) name ds) o e (IsFound (d ∷ ds) k name o)
@@ -79,11 +81,11 @@ mutex_from-found (d ∷ ds) k name o e =
     })
 
 -- the name of an object that is there
-name_in : (ds : List Declared) (o : ℕ) (d : Declared) → slice_get ds o ≡ Some d → name_of ds o ≡ d.name
+name_in : (ds : List Declaration) (o : ℕ) (d : Declaration) → slice_get ds o ≡ Some d → name_of ds o ≡ d.name
 name_in ds o d e = ap name_at e
 
 -- the mutex's name and kind by its number
-mutex_found : (ds : List Declared) (name : List ℕ) (o : ℕ) → mutex_from 0 name ds ≡ Some o → (name_of ds o ≡ name) × IsOfKind ds o kind.Mutex
+mutex_found : (ds : List Declaration) (name : List ℕ) (o : ℕ) → mutex_from 0 name ds ≡ Some o → (name_of ds o ≡ name) × IsOfKind ds o kind.Mutex
 mutex_found ds name o e =
     let f = mutex_from-found ds 0 name o e in
     let same : f.place ≡ o = omega (arith, f.from) in
@@ -91,17 +93,17 @@ mutex_found ds name o e =
     (name_in ds o f.object there ∙ f.named, (f.object, there, f.mutex))
 
 -- the line and the object of a call
-abbrev CallsOn : List Declared → List ℕ → List ℕ → Statement → Type 0
+abbrev CallsOn : List Declaration → List ℕ → List ℕ → Statement → Type 0
 CallsOn ds word name s = (statement_words ds s ≡ word ∷ name ∷ []) × IsStatement ds s
 
-lock_calls : (ds : List Declared) (name : List ℕ) (s : Statement) → call_of ds op.Lock name ≡ Some s → CallsOn ds (codes "lock") name s
+lock_calls : (ds : List Declaration) (name : List ℕ) (s : Statement) → call_of ds op.Lock name ≡ Some s → CallsOn ds (codes "lock") name s
 lock_calls ds name s e =
     let m = mapped (λ object. statement.Call object op.Lock) (mutex_from 0 name ds) s e in
     let f = mutex_found ds name m.0 m.1 in
     let P : Statement → Type 0 = λ t. CallsOn ds (codes "lock") name t in
     subst P m.2 (ap (λ n. codes "lock" ∷ n ∷ []) f.0, f.1)
 
-unlock_calls : (ds : List Declared) (name : List ℕ) (s : Statement) → call_of ds op.Unlock name ≡ Some s → CallsOn ds (codes "unlock") name s
+unlock_calls : (ds : List Declaration) (name : List ℕ) (s : Statement) → call_of ds op.Unlock name ≡ Some s → CallsOn ds (codes "unlock") name s
 unlock_calls ds name s e =
     let m = mapped (λ object. statement.Call object op.Unlock) (mutex_from 0 name ds) s e in
     let f = mutex_found ds name m.0 m.1 in
@@ -123,7 +125,7 @@ put_left s (q ∷ qs) ps e h =
     subst P e one
 
 -- inside a thread there is a program that is left
-left_over : (ds : List Declared) (ss : List Sentence) (ps : List (List Statement)) → programs_of ds true ss ≡ Some ps → 0 < length ps
+left_over : (ds : List Declaration) (ss : List ParsedLine) (ps : List (List Statement)) → programs_of ds true ss ≡ Some ps → 0 < length ps
 left_over ds [] ps e = (cc)
 left_over ds (says.Mutex n ∷ ss) ps e = (cc)
 left_over ds (says.Thread n ∷ ss) ps e = (cc)
@@ -139,24 +141,25 @@ left_over ds (says.End ∷ ss) ps e =
     let one : 0 < length ([] ∷ m.0) = omega arith in
     subst P m.2 one
 
--- The words of sentences, with this the next thread: outside of a thread those of what they declare, and
--- inside of one first those of the statements that are left.
-abbrev Words : ExerciseView → Bool → ℕ → List (List Statement) → List Sentence → Type 0
-Words x false t ps ss = map sentence_words ss ≡ flat_map (block_of x) (declared_of t ss)
+-- The words of parsed lines, with this the next thread: outside of a thread those of what they
+-- declare, and inside of one first those of the statements that are left.
+abbrev Words : ExerciseView → Bool → ℕ → List (List Statement) → List ParsedLine → Type 0
+Words x false t ps ss = map parsed_line_words ss ≡ flat_map (block_of x) (declarations_of t ss)
 Words x true t ps ss =
-    map sentence_words ss ≡ map (statement_words x.objects) (slice_index_or ps 0 []) ++ ((codes "end" ∷ []) ∷ flat_map (block_of x) (declared_of t ss))
+    map parsed_line_words ss ≡ map (statement_words x.objects) (slice_index_or ps 0 []) ++ ((codes "end" ∷ []) ∷ flat_map (block_of x) (declarations_of t ss))
 
--- The programs are those of the threads from the next one on; inside of a thread the first is left out.
+-- The programs are those of the threads from the next one on; inside of a thread the first is left
+-- out.
 abbrev AreFrom : ExerciseView → Bool → ℕ → List (List Statement) → Type 0
 AreFrom x false t ps = (i : ℕ) → program_of x (t + i) ≡ slice_index_or ps i []
 AreFrom x true t ps = (i : ℕ) → program_of x (t + i) ≡ slice_index_or ps (suc i) []
 
 -- a call in front of a program that is left
-words_of_call : (x : ExerciseView) (t : ℕ) (words : List (List ℕ)) (ss : List Sentence) (s : Statement) (qs ps : List (List Statement)) → 0 < length qs → put_statement s qs ≡ ps → statement_words x.objects s ≡ words → Words x true t qs ss → words ∷ map sentence_words ss ≡ map (statement_words x.objects) (slice_index_or ps 0 []) ++ ((codes "end" ∷ []) ∷ flat_map (block_of x) (declared_of t ss))
+words_of_call : (x : ExerciseView) (t : ℕ) (words : List (List ℕ)) (ss : List ParsedLine) (s : Statement) (qs ps : List (List Statement)) → 0 < length qs → put_statement s qs ≡ ps → statement_words x.objects s ≡ words → Words x true t qs ss → words ∷ map parsed_line_words ss ≡ map (statement_words x.objects) (slice_index_or ps 0 []) ++ ((codes "end" ∷ []) ∷ flat_map (block_of x) (declarations_of t ss))
 words_of_call x t words ss s [] ps h e w i = absurd (omega arith)
 words_of_call x t words ss s (q ∷ qs) ps h e w i =
-    let P : List (List Statement) → Type 0 = λ l. words ∷ map sentence_words ss ≡ map (statement_words x.objects) (slice_index_or l 0 []) ++ ((codes "end" ∷ []) ∷ flat_map (block_of x) (declared_of t ss)) in
-    subst P e (ap (λ l. words ∷ l) i ∙ ap (λ v. v ∷ (map (statement_words x.objects) q ++ ((codes "end" ∷ []) ∷ flat_map (block_of x) (declared_of t ss)))) (sym w))
+    let P : List (List Statement) → Type 0 = λ l. words ∷ map parsed_line_words ss ≡ map (statement_words x.objects) (slice_index_or l 0 []) ++ ((codes "end" ∷ []) ∷ flat_map (block_of x) (declarations_of t ss)) in
+    subst P e (ap (λ l. words ∷ l) i ∙ ap (λ v. v ∷ (map (statement_words x.objects) q ++ ((codes "end" ∷ []) ∷ flat_map (block_of x) (declarations_of t ss)))) (sym w))
 
 -- the programs after the first stay behind a call
 from_call : (x : ExerciseView) (t : ℕ) (s : Statement) (qs ps : List (List Statement)) → put_statement s qs ≡ ps → AreFrom x true t ps → AreFrom x true t qs
@@ -169,7 +172,7 @@ words_of_thread x t name p blocks e =
     ap (λ q. (codes "thread" ∷ name ∷ []) ∷ (map (statement_words x.objects) q ++ ((codes "end" ∷ []) ∷ blocks))) (sym e)
     ∙ ap (λ l. (codes "thread" ∷ name ∷ []) ∷ l) (sym (append_assoc (map (statement_words x.objects) (program_of x t)) ((codes "end" ∷ []) ∷ []) blocks))
 
-spells : (x : ExerciseView) (ss : List Sentence) (b : Bool) (t : ℕ) (ps : List (List Statement)) → programs_of x.objects b ss ≡ Some ps → AreFrom x b t ps → Words x b t ps ss
+spells : (x : ExerciseView) (ss : List ParsedLine) (b : Bool) (t : ℕ) (ps : List (List Statement)) → programs_of x.objects b ss ≡ Some ps → AreFrom x b t ps → Words x b t ps ss
 spells x [] false t ps e h = refl
 spells x [] true t ps e h = (cc)
 spells x (says.Mutex n ∷ ss) false t ps e h = ap (λ l. (codes "mutex" ∷ n ∷ []) ∷ l) (spells x ss false t ps e h)
@@ -178,7 +181,7 @@ spells x (says.Thread n ∷ ss) false t ps e h =
     let after : AreFrom x true (t + 1) ps = λ i. let next : t + 1 + i ≡ t + suc i = omega arith in ap (program_of x) next ∙ h (suc i) in
     let here : t ≡ t + 0 = omega arith in
     ap (λ l. (codes "thread" ∷ n ∷ []) ∷ l) (spells x ss true (t + 1) ps e after)
-    ∙ words_of_thread x t n (slice_index_or ps 0 []) (flat_map (block_of x) (declared_of (t + 1) ss)) (ap (program_of x) here ∙ h 0)
+    ∙ words_of_thread x t n (slice_index_or ps 0 []) (flat_map (block_of x) (declarations_of (t + 1) ss)) (ap (program_of x) here ∙ h 0)
 spells x (says.Thread n ∷ ss) true t ps e h = (cc)
 spells x (says.Lock n ∷ ss) false t ps e h = (cc)
 spells x (says.Lock n ∷ ss) true t ps e h =
@@ -198,24 +201,24 @@ spells x (says.End ∷ ss) true t ps e h =
     let first : Words x true t ([] ∷ m.0) (says.End ∷ ss) = ap (λ l. (codes "end" ∷ []) ∷ l) (spells x ss false t m.0 m.1 after) in
     subst P m.2 first
 
--- sentences spell what the reader makes of them
-pub sentences-spelled : (ss : List Sentence) (ds : List Declared) (ps : List (List Statement)) → declared_of 1 ss ≡ ds → programs_of ds false ss ≡ Some ps → map sentence_words ss ≡ spelled (record { objects = ds; programs = ps })
-sentences-spelled ss ds ps d e =
+-- parsed lines spell what the reader makes of them
+pub parsed_lines-spelled : (ss : List ParsedLine) (ds : List Declaration) (ps : List (List Statement)) → declarations_of 1 ss ≡ ds → programs_of ds false ss ≡ Some ps → map parsed_line_words ss ≡ spelled (record { objects = ds; programs = ps })
+parsed_lines-spelled ss ds ps d e =
     let x : ExerciseView = record { objects = ds; programs = ps } in
     let from : AreFrom x false 1 ps = λ i. let next : 1 + i ≡ suc i = omega arith in ap (program_of x) next in
     spells x ss false 1 ps e from ∙ ap (flat_map (block_of x)) d
 
 -- the names and kinds of what is declared
-declared_is : (ss : List Sentence) (t o : ℕ) (d : Declared) → AllByRecursion IsNamed ss → slice_get (declared_of t ss) o ≡ Some d → IsName d.name × IsKindRead d.kind
+declared_is : (ss : List ParsedLine) (t o : ℕ) (d : Declaration) → AllByRecursion IsNamed ss → slice_get (declarations_of t ss) o ≡ Some d → IsName d.name × IsKindRead d.kind
 declared_is [] t o d h e = (cc)
 declared_is (says.Mutex n ∷ ss) t zero d h e =
-    let P : Declared → Type 0 = λ c. IsName c.name × IsKindRead c.kind in
-    let Given : Option Declared → Type 0 = λ c. given P c in
+    let P : Declaration → Type 0 = λ c. IsName c.name × IsKindRead c.kind in
+    let Given : Option Declaration → Type 0 = λ c. given P c in
     subst Given e (h.0, tt)
 declared_is (says.Mutex n ∷ ss) t (suc o) d h e = declared_is ss t o d h.1 e
 declared_is (says.Thread n ∷ ss) t zero d h e =
-    let P : Declared → Type 0 = λ c. IsName c.name × IsKindRead c.kind in
-    let Given : Option Declared → Type 0 = λ c. given P c in
+    let P : Declaration → Type 0 = λ c. IsName c.name × IsKindRead c.kind in
+    let Given : Option Declaration → Type 0 = λ c. given P c in
     subst Given e (h.0, refl)
 declared_is (says.Thread n ∷ ss) t (suc o) d h e = declared_is ss (t + 1) o d h.1 e
 declared_is (says.Lock n ∷ ss) t o d h e = declared_is ss t o d h.1 e
@@ -236,7 +239,7 @@ front_number t [] h = absurd (omega arith)
 front_number t (p ∷ ps) h = refl
 
 -- threads are numbered in order, one for each program
-numbered : (ds : List Declared) (ss : List Sentence) (b : Bool) (t : ℕ) (ps : List (List Statement)) → programs_of ds b ss ≡ Some ps → filter_map thread_of (declared_of t ss) ≡ range_with_len t (length (after_first b ps))
+numbered : (ds : List Declaration) (ss : List ParsedLine) (b : Bool) (t : ℕ) (ps : List (List Statement)) → programs_of ds b ss ≡ Some ps → filter_map thread_of (declarations_of t ss) ≡ range_with_len t (length (after_first b ps))
 numbered ds [] false t ps e =
     let none : ◌≡◌ {A = List (List Statement)} [] ps = cc in
     ap (λ l. range_with_len t (length l)) none
@@ -260,16 +263,16 @@ numbered ds (says.End ∷ ss) true t ps e =
     numbered ds ss false t m.0 m.1 ∙ ap (λ l. range_with_len t (length (drop 1 l))) m.2
 
 -- what programs call
-abbrev AreCalls : List Declared → List (List Statement) → Type 0
+abbrev AreCalls : List Declaration → List (List Statement) → Type 0
 AreCalls ds ps = AllByRecursion (λ p. AllByRecursion (IsStatement ds) p) ps
 
-calls_put : (ds : List Declared) (s : Statement) (qs ps : List (List Statement)) → put_statement s qs ≡ ps → IsStatement ds s → AreCalls ds qs → AreCalls ds ps
+calls_put : (ds : List Declaration) (s : Statement) (qs ps : List (List Statement)) → put_statement s qs ≡ ps → IsStatement ds s → AreCalls ds qs → AreCalls ds ps
 calls_put ds s [] ps e h calls = subst (AreCalls ds) e tt
 calls_put ds s (q ∷ qs) ps e h calls =
     let more : AreCalls ds ((s ∷ q) ∷ qs) = ((h, calls.0), calls.1) in
     subst (AreCalls ds) e more
 
-are_calls : (ds : List Declared) (ss : List Sentence) (b : Bool) (ps : List (List Statement)) → programs_of ds b ss ≡ Some ps → AreCalls ds ps
+are_calls : (ds : List Declaration) (ss : List ParsedLine) (b : Bool) (ps : List (List Statement)) → programs_of ds b ss ≡ Some ps → AreCalls ds ps
 are_calls ds [] false ps e =
     let none : ◌≡◌ {A = List (List Statement)} [] ps = cc in
     subst (AreCalls ds) none tt
@@ -300,28 +303,28 @@ at_place P (y ∷ ys) zero x h e =
     subst Given e h.0
 at_place P (y ∷ ys) (suc k) x h e = at_place P ys k x h.1 e
 
-statement_is : (ds : List Declared) (ps : List (List Statement)) (t k : ℕ) (s : Statement) → AreCalls ds ps → slice_get (slice_index_or ps t []) k ≡ Some s → IsStatement ds s
+statement_is : (ds : List Declaration) (ps : List (List Statement)) (t k : ℕ) (s : Statement) → AreCalls ds ps → slice_get (slice_index_or ps t []) k ≡ Some s → IsStatement ds s
 statement_is ds [] t k s h e = (cc)
 statement_is ds (p ∷ ps) zero k s h e = at_place (IsStatement ds) p k s h.0 e
 statement_is ds (p ∷ ps) (suc t) k s h e = statement_is ds ps t k s h.1 e
 
-short_is : (ps : List (List Statement)) (t : ℕ) → list_all is_short ps ≡ true → length (slice_index_or ps t []) ≤ 4096
+short_is : (ps : List (List Statement)) (t : ℕ) → list_all is_short ps ≡ true → length (slice_index_or ps t []) ≤ MOST_STATEMENTS
 short_is [] t h = omega arith
-short_is (p ∷ ps) zero h = leb-true (length p) 4096 (both_true (is_short p) (list_all is_short ps) h).0
+short_is (p ∷ ps) zero h = leb-true (length p) MOST_STATEMENTS (both_true (is_short p) (list_all is_short ps) h).0
 short_is (p ∷ ps) (suc t) h = short_is ps t (both_true (is_short p) (list_all is_short ps) h).1
 
 -- names that pass the test
-main_not : (d : Declared) (ds : List Declared) → are_fit (d ∷ ds) ≡ true → (bytes_eq d.name (codes "main") ≡ false) × (list_any (λ e. bytes_eq e.name d.name) ds ≡ false) × (are_fit ds ≡ true)
+main_not : (d : Declaration) (ds : List Declaration) → are_fit (d ∷ ds) ≡ true → (bytes_eq d.name (codes "main") ≡ false) × (list_any (λ e. bytes_eq e.name d.name) ds ≡ false) × (are_fit ds ≡ true)
 main_not d ds e =
     let b = both_true (not (bytes_eq d.name (codes "main") || list_any (λ c. bytes_eq c.name d.name) ds)) (are_fit ds) e in
     let n = neither (bytes_eq d.name (codes "main")) (list_any (λ c. bytes_eq c.name d.name) ds) b.0 in
     (n.0, n.1, b.1)
 
-not_main : (ds : List Declared) (o : ℕ) (d : Declared) → are_fit ds ≡ true → slice_get ds o ≡ Some d → d.name ≢ codes "main"
+not_main : (ds : List Declaration) (o : ℕ) (d : Declaration) → are_fit ds ≡ true → slice_get ds o ≡ Some d → d.name ≢ codes "main"
 not_main [] o d h e = (cc)
 not_main (c ∷ ds) zero d h e =
-    let P : Declared → Type 0 = λ b. b.name ≢ codes "main" in
-    let Given : Option Declared → Type 0 = λ b. given P b in
+    let P : Declaration → Type 0 = λ b. b.name ≢ codes "main" in
+    let Given : Option Declaration → Type 0 = λ b. given P b in
     let other : c.name ≢ codes "main" = λ same. false≢true (sym (main_not c ds h).0 ∙ (bytes_eq-Decides c.name (codes "main")).1 same) in
     subst Given e other
 not_main (c ∷ ds) (suc o) d h e = not_main ds o d (main_not c ds h).2 e
@@ -334,20 +337,20 @@ none_passes test (y ∷ ys) zero x h e =
     subst P e (either (test y) (list_any test ys) h).0
 none_passes test (y ∷ ys) (suc k) x h e = none_passes test ys k x (either (test y) (list_any test ys) h).1 e
 
-once : (ds : List Declared) (o p : ℕ) (c d : Declared) → are_fit ds ≡ true → slice_get ds o ≡ Some c → slice_get ds p ≡ Some d → c.name ≡ d.name → o ≡ p
+once : (ds : List Declaration) (o p : ℕ) (c d : Declaration) → are_fit ds ≡ true → slice_get ds o ≡ Some c → slice_get ds p ≡ Some d → c.name ≡ d.name → o ≡ p
 once [] o p c d h e f same = (cc)
 once (b ∷ ds) zero zero c d h e f same = refl
 once (b ∷ ds) zero (suc p) c d h e f same =
-    let is : ◌≡◌ {A = Declared} b c = cc in
+    let is : ◌≡◌ {A = Declaration} b c = cc in
     let none = none_passes (λ a. bytes_eq a.name b.name) ds p d (main_not b ds h).1 f in
     absurd (false≢true (sym none ∙ (bytes_eq-Decides d.name b.name).1 (sym (ap (λ a. a.name) is ∙ same))))
 once (b ∷ ds) (suc o) zero c d h e f same =
-    let is : ◌≡◌ {A = Declared} b d = cc in
+    let is : ◌≡◌ {A = Declaration} b d = cc in
     let none = none_passes (λ a. bytes_eq a.name b.name) ds o c (main_not b ds h).1 e in
     absurd (false≢true (sym none ∙ (bytes_eq-Decides c.name b.name).1 (same ∙ sym (ap (λ a. a.name) is))))
 once (b ∷ ds) (suc o) (suc p) c d h e f same = ap suc (once ds o p c d (main_not b ds h).2 e f same)
 
-short_programs : (x : ExerciseView) → list_all is_short x.programs ≡ true → (t : ℕ) → length (program_of x t) ≤ 4096
+short_programs : (x : ExerciseView) → list_all is_short x.programs ≡ true → (t : ℕ) → length (program_of x t) ≤ MOST_STATEMENTS
 short_programs x h zero = omega arith
 short_programs x h (suc t) = short_is x.programs t h
 
@@ -355,15 +358,15 @@ called_statements : (x : ExerciseView) → AreCalls x.objects x.programs → (t 
 called_statements x h zero k s e = (cc)
 called_statements x h (suc t) k s e = statement_is x.objects x.programs t k s h e
 
--- what the reader makes of sentences is well formed
-pub well_formed : (ss : List Sentence) (ds : List Declared) (ps : List (List Statement)) → AllByRecursion IsNamed ss → declared_of 1 ss ≡ ds → length ds ≤ 256 → are_fit ds ≡ true → programs_of ds false ss ≡ Some ps → are_short ps ≡ true → IsWellFormed (record { objects = ds; programs = ps })
+-- what the reader makes of parsed lines is well formed
+pub well_formed : (ss : List ParsedLine) (ds : List Declaration) (ps : List (List Statement)) → AllByRecursion IsNamed ss → declarations_of 1 ss ≡ ds → length ds ≤ MOST_OBJECTS → are_fit ds ≡ true → programs_of ds false ss ≡ Some ps → are_short ps ≡ true → IsWellFormed (record { objects = ds; programs = ps })
 well_formed ss ds ps named d few fit e short =
     let x : ExerciseView = record { objects = ds; programs = ps } in
-    let sizes = both_true (nat_le (length ps) 64) (list_all is_short ps) short in
-    let is : (o : ℕ) (c : Declared) → slice_get ds o ≡ Some c → IsName c.name × IsKindRead c.kind = λ o c at. declared_is ss 1 o c named (ap (λ l. slice_get l o) d ∙ at) in
+    let sizes = both_true (nat_le (length ps) MOST_THREADS) (list_all is_short ps) short in
+    let is : (o : ℕ) (c : Declaration) → slice_get ds o ≡ Some c → IsName c.name × IsKindRead c.kind = λ o c at. declared_is ss 1 o c named (ap (λ l. slice_get l o) d ∙ at) in
     record {
       few_objects = few;
-      few_threads = leb-true (length ps) 64 sizes.0;
+      few_threads = leb-true (length ps) MOST_THREADS sizes.0;
       short = short_programs x sizes.1;
       names = λ o c at. ((is o c at).0, not_main ds o c fit at);
       once = λ o p b c at_o at_p same. once ds o p b c fit at_o at_p same;

@@ -1,4 +1,4 @@
--- The lines and words that the code cuts off the front.
+-- The lines and words that the code cuts off the start.
 use Rattle.std.proofs.Common.{◌≡◌, ℕ, zero, suc, ◌+◌, ◌<◌, ◌≢◌, Bool, true, false, cond, not, ◌==◌, List, [], ◌∷◌, ◌++◌, length, take, drop, refl, sym, ap, ◌∙◌, arith}
 use Rattle.std.specs.List.{prefix_len, position_or_len}
 use Rattle.std.proofs.lemmas.Bool.{cond_both, cond-true, cond-false}
@@ -87,8 +87,8 @@ without_cr-cr [] = refl
 without_cr-cr (b ∷ []) = refl
 without_cr-cr (b ∷ c ∷ line) = ap (λ l. b ∷ l) (without_cr-cr (c ∷ line))
 
-pub without_cr-none : (line : List ℕ) → ((front : List ℕ) → line ≢ front ++ 13 ∷ []) → without_cr line ≡ line
+pub without_cr-none : (line : List ℕ) → ((prefix : List ℕ) → line ≢ prefix ++ 13 ∷ []) → without_cr line ≡ line
 without_cr-none [] h = refl
 without_cr-none (b ∷ []) h =
     cond_both (b == 13) [] (b ∷ []) (λ l. l ≡ b ∷ []) (λ e. absurd (h [] (ap (λ k. k ∷ []) ((Decides-eqb b 13).0 e)))) (λ e. refl)
-without_cr-none (b ∷ c ∷ line) h = ap (λ l. b ∷ l) (without_cr-none (c ∷ line) (λ front e. h (b ∷ front) (ap (λ l. b ∷ l) e)))
+without_cr-none (b ∷ c ∷ line) h = ap (λ l. b ∷ l) (without_cr-none (c ∷ line) (λ prefix e. h (b ∷ prefix) (ap (λ l. b ∷ l) e)))

@@ -1,5 +1,5 @@
 ghost use Rattle.std.specs.Prelude.{◌≡◌};
-ghost use Rattle.tm_text.specs.declared.refusals.NoExercise.TheVariants.{NoMemory};
+ghost use Rattle.tm_text.specs.declared.no_exercises.NoExercise.TheVariants.{NoMemory};
 
 use std::alloc::{AllocError, AllocFailed};
 
@@ -8,7 +8,7 @@ use std::alloc::{AllocError, AllocFailed};
 pub enum NoExercise {
     /// The text is that of no exercise.
     Text,
-    /// Memory was wanting.
+    /// Memory ran out.
     NoMemory,
 }
 
