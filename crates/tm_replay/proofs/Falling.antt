@@ -7,7 +7,7 @@ use Rattle.tm_base.specs.declared.operations.Op.{Op}
 use Rattle.tm_base.specs.declared.operations.Op.TheVariants as op
 use Rattle.tm_base.specs.declared.replies.Reply.{Reply}
 use Rattle.tm_base.specs.declared.events.Entry.{Entry}
-use Rattle.tm_base.specs.declared.outcomes.Ask.TheVariants as ask
+use Rattle.tm_base.specs.declared.asks.Ask.TheVariants as ask
 use Rattle.tm_base.specs.Histories.{Lawful}
 use Rattle.tm_laws.specs.Counts.{is_wait}
 use Rattle.tm_laws.specs.Tidy.{Moves, is_stop}
@@ -15,12 +15,12 @@ use Rattle.tm_laws.specs.ThreadObjects.{is_end}
 use Rattle.tm_laws.proofs.Counting.{grant-plain}
 use Rattle.tm_text.specs.declared.exercises.Statement.{Statement}
 use Rattle.tm_text.specs.Exercises.{ExerciseView, IsWellFormed, own_of}
-use Rattle.tm_text.specs.Programs.{Rest, answered, asked_of, left_after}
+use Rattle.tm_text.specs.Programs.{Rest, answered, next_ask, left_after}
 use Rattle.tm_replay.specs.declared.phases.Phase.{Phase}
 use Rattle.tm_replay.specs.declared.phases.Phase.TheVariants as phase
-use Rattle.tm_replay.specs.Joint.{Joint, Standing, Place}
+use Rattle.tm_replay.specs.JointStates.{JointState, ThreadState, ObjectState}
 use Rattle.tm_replay.specs.JointSteps.{JointStep, stepped, entered, phase_by, phase_after, rest_by}
-use Rattle.tm_replay.specs.Sound.{IsSoundJoint, IsAnswered, is_main}
+use Rattle.tm_replay.specs.SoundStates.{IsSoundJoint, IsAnswered, is_main}
 use Rattle.tm_replay.specs.Work.{work_in, work_of, stop_of, work}
 use Rattle.tm_replay.proofs.Moves.{Does, begins, ends, calls, resumes, Becomes, finished, waiting, freed}
 use Rattle.tm_replay.proofs.Soundness.{step-moves, step-does, step-became, step-after, step-stands, step-stops, step-main}
@@ -40,10 +40,10 @@ left_shorter None left = omega arith
 left_shorter (Some r) left = shorter left
 
 -- an answered call is one less
-answered_call : (rest : Rest) → IsSome rest.last → (object : ℕ) (o : Op) → asked_of rest.left ≡ ask.Call object o → length (left_after rest.last rest.left) + 1 ≡ length rest.left
+answered_call : (rest : Rest) → IsSome rest.last → (object : ℕ) (o : Op) → next_ask rest.left ≡ ask.Call object o → length (left_after rest.last rest.left) + 1 ≡ length rest.left
 answered_call rest had object o asked = go rest.last rest.left had asked
   where
-    go : (last : Option Reply) (left : List Statement) → IsSome last → asked_of left ≡ ask.Call object o → length (left_after last left) + 1 ≡ length left
+    go : (last : Option Reply) (left : List Statement) → IsSome last → next_ask left ≡ ask.Call object o → length (left_after last left) + 1 ≡ length left
     go None left had asked = absurd (false≢true had)
     go (Some r) [] had asked = absurd cc
     go (Some r) (s ∷ left) had asked = omega arith
@@ -90,29 +90,29 @@ bool_cases : (b : Bool) → (b ≡ true) ⊎ (b ≡ false)
 bool_cases true = inl refl
 bool_cases false = inr refl
 
-module _ (x : ExerciseView) (j k : Joint) (e : Entry) (formed : IsWellFormed x) (sound : IsSoundJoint x j) (step : JointStep x j e k) where
-  abbrev seat : Standing
-  seat = step.happens.standing
+module _ (x : ExerciseView) (j k : JointState) (e : Entry) (formed : IsWellFormed x) (sound : IsSoundJoint x j) (step : JointStep x j e k) where
+  abbrev seat : ThreadState
+  seat = step.happens.thread_state
 
-  abbrev spot : Place
-  spot = step.happens.spot
+  abbrev object_state : ObjectState
+  object_state = step.happens.object_state
 
-  threads : sum_by work_of k.standings + work_of seat ≡ sum_by work_of j.standings + work_of (stepped seat e)
-  threads = subst (λ (l : List Standing). sum_by work_of l + work_of seat ≡ sum_by work_of j.standings + work_of (stepped seat e)) (sym step.happens.standings)
-      (sum_by-lower work_of j.standings e.thread seat (stepped seat e) step.happens.thread)
+  threads : sum_by work_of k.threads + work_of seat ≡ sum_by work_of j.threads + work_of (stepped seat e)
+  threads = subst (λ (l : List ThreadState). sum_by work_of l + work_of seat ≡ sum_by work_of j.threads + work_of (stepped seat e)) (sym step.happens.threads)
+      (sum_by-lower work_of j.threads e.thread seat (stepped seat e) step.happens.thread)
 
-  objects : sum_by stop_of k.objects + stop_of spot ≡ sum_by stop_of j.objects + stop_of (entered spot e step.happens.state)
-  objects = subst (λ (l : List Place). sum_by stop_of l + stop_of spot ≡ sum_by stop_of j.objects + stop_of (entered spot e step.happens.state)) (sym step.happens.objects)
-      (sum_by-lower stop_of j.objects e.object spot (entered spot e step.happens.state) step.happens.object)
+  objects : sum_by stop_of k.objects + stop_of object_state ≡ sum_by stop_of j.objects + stop_of (entered object_state e step.happens.state)
+  objects = subst (λ (l : List ObjectState). sum_by stop_of l + stop_of object_state ≡ sum_by stop_of j.objects + stop_of (entered object_state e step.happens.state)) (sym step.happens.objects)
+      (sum_by-lower stop_of j.objects e.object object_state (entered object_state e step.happens.state) step.happens.object)
 
-  moved : Moves spot.held e.thread e.op e.reply step.happens.state
+  moved : Moves object_state.view e.thread e.op e.reply step.happens.state
   moved = step-moves x j k e formed sound step
 
   -- a resume's reply doesn't wait
   final : e.op ≡ op.Resume → is_wait e.reply ≡ false
   final b =
-      let resumes' = subst (λ (o : Op). Lawful spot.held e.thread o e.reply step.happens.state) b step.happens.lawful in
-      grant-plain e.reply ((sound.objects e.object spot step.happens.object).sound.tidy.final e.thread e.reply resumes'.granted)
+      let resumes' = subst (λ (o : Op). Lawful object_state.view e.thread o e.reply step.happens.state) b step.happens.lawful in
+      grant-plain e.reply ((sound.objects e.object object_state step.happens.object).sound.tidy.final e.thread e.reply resumes'.granted)
 
   pub work-step : work k + 1 ≤ work j
   work-step = ⊎_elim main_case plain_case (bool_cases (is_main seat.phase))
@@ -120,9 +120,9 @@ module _ (x : ExerciseView) (j k : Joint) (e : Entry) (formed : IsWellFormed x) 
       main_case : is_main seat.phase ≡ true → work k + 1 ≤ work j
       main_case main =
           let stop : e.op ≡ op.Stop = step-stops x j k e formed sound step main in
-          let halts = subst (λ (o : Op). Lawful spot.held e.thread o e.reply step.happens.state) stop step.happens.lawful in
-          let before : stop_of spot ≡ 1 = ap (λ b. if b then 0 else 1) halts.running in
-          let now : stop_of (entered spot e step.happens.state) ≡ 0 = ap (λ s. if s.stopped then 0 else 1) halts.halted in
+          let halts = subst (λ (o : Op). Lawful object_state.view e.thread o e.reply step.happens.state) stop step.happens.lawful in
+          let before : stop_of object_state ≡ 1 = ap (λ b. if b then 0 else 1) halts.running in
+          let now : stop_of (entered object_state e step.happens.state) ≡ 0 = ap (λ s. if s.stopped then 0 else 1) halts.halted in
           let is : seat.phase ≡ phase.Main = (step-main x j k e formed sound step main).0 in
           let is' : phase_after seat.phase e ≡ phase.Main = (step-main x j k e formed sound step main).1 in
           let old : work_of seat ≡ 0 = ap (λ p. work_in p seat.rest.left seat.rest.last) is in
@@ -134,8 +134,8 @@ module _ (x : ExerciseView) (j k : Joint) (e : Entry) (formed : IsWellFormed x) 
           let does = step-does x j k e formed sound step plain in
           let became = step-became x j k e formed sound step plain in
           let stopped : is_stop e.op ≡ false = step-after x j k e formed sound step plain in
-          let same : stop_of (entered spot e step.happens.state) ≡ stop_of spot =
-          ap (λ b. if b then 0 else 1) (moved.stopped ∙ ap (λ b. b || spot.held.state.stopped) stopped) in
+          let same : stop_of (entered object_state e step.happens.state) ≡ stop_of object_state =
+          ap (λ b. if b then 0 else 1) (moved.stopped ∙ ap (λ b. b || object_state.view.state.stopped) stopped) in
           let is : phase_after seat.phase e ≡ phase_by e.op e.reply e.object = (step-stands x j k e formed sound step).1 plain in
           let less = falls (own_of x.objects e.thread) seat.phase seat.rest e.object e.op e.reply (step-stands x j k e formed sound step).0 final does became in
           let new : work_of (stepped seat e) ≡ work_in (phase_by e.op e.reply e.object) (rest_by e.op e.reply seat.rest).left (rest_by e.op e.reply seat.rest).last =

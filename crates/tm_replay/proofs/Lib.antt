@@ -3,6 +3,8 @@ pub mod Counted
 pub mod Moves
 pub mod Soundness
 pub mod Falling
-pub mod Starts
-pub mod Histories
-pub mod Closing
+pub mod JointStartLemmas
+pub mod ProjectionsLemmas
+pub mod ClosingLemmas
+pub mod JointOrderLemmas
+pub mod RunnableThreadsLemmas

@@ -18,6 +18,12 @@ slice_get-set_same [] i v h = absurd (omega (arith, h))
 slice_get-set_same (x ∷ xs) zero v h = refl
 slice_get-set_same (x ∷ xs) (suc i) v h = slice_get-set_same xs i v (omega (arith, h))
 
+-- within a list there is an element
+pub found_at : {A : Type 0} (xs : List A) (i : ℕ) → i < length xs → (x : A) × (slice_get xs i ≡ Some x)
+found_at [] i h = absurd (omega (arith, h))
+found_at (x ∷ xs) zero h = (x, refl)
+found_at (x ∷ xs) (suc i) h = found_at xs i (omega (arith, h))
+
 -- one more at the end, which passes the test or doesn't
 pub filter-snoc_in : {A : Type 0} (p : A → Bool) (xs : List A) (x : A) → p x ≡ true → filter p (xs ++ x ∷ []) ≡ filter p xs ++ x ∷ []
 filter-snoc_in p xs x h = filter-append p xs (x ∷ []) ∙ ap (λ b. filter p xs ++ cond b (x ∷ []) []) h
@@ -49,7 +55,7 @@ Contains-first y xs x (zero, h, is) = inl (sym is)
 Contains-first y xs x (suc k, h, is) = inr (k, omega (arith, h), is)
 
 -- an element takes the list apart into what stands before it and what stands behind it
-pub Contains-parts : {A : Type 0} (xs : List A) (x : A) → Contains xs x → (front : List A) × (back : List A) × (xs ≡ front ++ x ∷ back)
+pub Contains-parts : {A : Type 0} (xs : List A) (x : A) → Contains xs x → (prefix : List A) × (back : List A) × (xs ≡ prefix ++ x ∷ back)
 Contains-parts [] x h = absurd (omega (arith, h.1))
 Contains-parts (y ∷ xs) x h = ⊎_elim
     (λ (same : x ≡ y). ([], xs, ap (λ z. z ∷ xs) (sym same)))

@@ -1,46 +1,43 @@
 -- What a program thread's event is, and what it makes of the thread.
-use Rattle.std.proofs.Common.{◌≡◌, ℕ, zero, suc, ◌+◌, Bool, true, false, inl, inr, List, [], ◌∷◌, drop, Some, slice_get, MatchBool, refl, ap, sym, ◌∙◌, subst, arith}
+use Rattle.std.proofs.Common.{◌≡◌, ℕ, zero, suc, ◌+◌, Bool, true, false, inl, inr, List, [], ◌∷◌, drop, Some, None, slice_get, if◌then◌else◌, refl, ap, sym, ◌∙◌, arith}
 use Rattle.tm_base.specs.declared.operations.Op.{Op}
 use Rattle.tm_base.specs.declared.operations.Op.TheVariants as op
 use Rattle.tm_base.specs.declared.replies.Reply.{Reply}
 use Rattle.tm_base.specs.declared.replies.Reply.TheVariants as reply
 use Rattle.tm_base.specs.declared.kinds.Kind.{Kind}
 use Rattle.tm_base.specs.declared.kinds.Kind.TheVariants as kind
-use Rattle.tm_base.specs.declared.outcomes.Ask.{Ask}
-use Rattle.tm_base.specs.declared.outcomes.Ask.TheVariants as ask
+use Rattle.tm_base.specs.declared.asks.Ask.{Ask}
+use Rattle.tm_base.specs.declared.asks.Ask.TheVariants as ask
 use Rattle.tm_base.specs.Fits.{fits}
-use Rattle.tm_base.specs.States.{Own, State, ThreadOwn}
-use Rattle.tm_base.specs.Steps.{OwnStep}
-use Rattle.tm_base.specs.Machines.{Held}
-use Rattle.tm_base.specs.Histories.{Lawful}
 use Rattle.tm_laws.specs.Counts.{is_wait}
 use Rattle.tm_laws.specs.Tidy.{is_stop}
 use Rattle.tm_laws.specs.ThreadObjects.{is_begin, is_end}
+use Rattle.tm_text.specs.declared.exercises.Declaration.{Declaration}
 use Rattle.tm_text.specs.declared.exercises.Statement.{Statement}
 use Rattle.tm_text.specs.declared.exercises.Statement.TheVariants as statement
 use Rattle.tm_text.specs.Exercises.{ExerciseView, IsWellFormed, IsStatement, IsOfKind, program_of}
-use Rattle.tm_text.specs.Programs.{Rest, answered, asked_of}
+use Rattle.tm_text.specs.Programs.{Rest, answered, is_stopped, next_ask}
 use Rattle.tm_replay.specs.declared.phases.Phase.{Phase}
 use Rattle.tm_replay.specs.declared.phases.Phase.TheVariants as phase
-use Rattle.tm_replay.specs.JointSteps.{MayIn, MayAsk, is_stopped, is_call, phase_by, rest_by}
-use Rattle.tm_replay.specs.Sound.{is_main}
+use Rattle.tm_replay.specs.JointSteps.{MayIn, MayAsk, is_call, phase_by, rest_by}
+use Rattle.tm_replay.specs.SoundStates.{is_main}
 
 -- a program thread begins or ends on its own object, makes the call that its program asks, or resumes
 pub data Does : ℕ → Phase → Rest → ℕ → Op → Type 0 where
   begins : {own object : ℕ} {p : Phase} {rest : Rest} {o : Op} → p ≡ phase.NotBegun → object ≡ own → o ≡ op.Begin → Does own p rest object o
   ends : {own object : ℕ} {p : Phase} {rest : Rest} {o : Op} → p ≡ phase.Free → object ≡ own → (cut : Bool) → o ≡ op.End cut → Does own p rest object o
-  calls : {own object : ℕ} {p : Phase} {rest : Rest} {o : Op} → p ≡ phase.Free → asked_of rest.left ≡ ask.Call object o → Does own p rest object o
+  calls : {own object : ℕ} {p : Phase} {rest : Rest} {o : Op} → p ≡ phase.Free → next_ask rest.left ≡ ask.Call object o → Does own p rest object o
   resumes : {own object : ℕ} {p : Phase} {rest : Rest} {o : Op} → p ≡ phase.Waits object → o ≡ op.Resume → Does own p rest object o
 
-asks : (own : ℕ) (rest : Rest) (object : ℕ) (o : Op) (a : Ask) → asked_of rest.left ≡ a → MayAsk own a object o → Does own phase.Free rest object o
+asks : (own : ℕ) (rest : Rest) (object : ℕ) (o : Op) (a : Ask) → next_ask rest.left ≡ a → MayAsk own (Some a) object o → Does own phase.Free rest object o
 asks own rest object o (ask.Call object' o') e (inl same) = calls refl (e ∙ ap (λ n. ask.Call n o') (sym same.0) ∙ ap (ask.Call object) (sym same.1))
 asks own rest object o (ask.Call object' o') e (inr cut) = ends refl cut.0 true cut.1
 asks own rest object o ask.Over e over = ends refl over.0 false over.1
 
 free : (own : ℕ) (rest : Rest) (object : ℕ) (o : Op) (stopped : Bool)
-    → MatchBool stopped ((object ≡ own) × (o ≡ op.End true)) (MayAsk own (asked_of rest.left) object o) → Does own phase.Free rest object o
+    → MayAsk own (if stopped then None else Some (next_ask rest.left)) object o → Does own phase.Free rest object o
 free own rest object o true may = ends refl may.0 true may.1
-free own rest object o false may = asks own rest object o (asked_of rest.left) refl may
+free own rest object o false may = asks own rest object o (next_ask rest.left) refl may
 
 pub may-does : (own : ℕ) (p : Phase) (rest : Rest) (object : ℕ) (o : Op) → is_main p ≡ false → MayIn own p rest object o → Does own p rest object o
 may-does own phase.Main rest object o main may = absurd cc
@@ -49,18 +46,22 @@ may-does own phase.Free rest object o main may = free own rest object o (is_stop
 may-does own (phase.Waits at) rest object o main may = resumes (ap phase.Waits (sym may.0)) may.1
 may-does own (phase.Ended cut) rest object o main may = elim may [ ]
 
--- what a well formed program asks: a lock or an unlock of a mutex
+-- what a well formed program asks: a call that its object has
 pub record IsAsked (x : ExerciseView) (object : ℕ) (o : Op) : Type 0 where
-  pub mutex : IsOfKind x.objects object kind.Mutex
+  pub declaration : Declaration
+  pub found : slice_get x.objects object ≡ Some declaration
   pub call : is_call o ≡ true
-  pub fit : fits o kind.Mutex ≡ true
+  pub fit : fits o declaration.kind ≡ true
+
+asked-fit : (x : ExerciseView) (object : ℕ) (o : Op) (k : Kind) → is_call o ≡ true → fits o k ≡ true → IsOfKind x.objects object k → IsAsked x object o
+asked-fit x object o k call fit h = record { declaration = h.0; found = h.1; call = call; fit = ap (fits o) h.2 ∙ fit }
 
 asked-statement : (x : ExerciseView) (object : ℕ) (o : Op) → IsStatement x.objects (statement.Call object o) → IsAsked x object o
-asked-statement x object op.Lock h = record { mutex = h; call = refl; fit = refl }
-asked-statement x object op.Unlock h = record { mutex = h; call = refl; fit = refl }
+asked-statement x object op.Lock h = asked-fit x object op.Lock kind.Mutex refl refl h
+asked-statement x object op.Unlock h = asked-fit x object op.Unlock kind.Mutex refl refl h
 asked-statement x object o h = elim h [ ]
 
-first_of_left : (left : List Statement) (object : ℕ) (o : Op) → asked_of left ≡ ask.Call object o → slice_get left 0 ≡ Some (statement.Call object o)
+first_of_left : (left : List Statement) (object : ℕ) (o : Op) → next_ask left ≡ ask.Call object o → slice_get left 0 ≡ Some (statement.Call object o)
 first_of_left [] object o e = absurd cc
 first_of_left (statement.Call a b ∷ left) object o e = let same : (statement.Call a b) ≡ statement.Call object o = cc in ap Some same
 
@@ -70,7 +71,7 @@ slice_get-drop [] (suc n) k = refl
 slice_get-drop (x ∷ xs) (suc n) k = let e : suc (n + k) ≡ suc n + k = omega arith in slice_get-drop xs n k ∙ ap (slice_get (x ∷ xs)) e
 
 pub asked-well_formed : (x : ExerciseView) → IsWellFormed x → (t done : ℕ) (left : List Statement) → left ≡ drop done (program_of x t)
-    → (object : ℕ) (o : Op) → asked_of left ≡ ask.Call object o → IsAsked x object o
+    → (object : ℕ) (o : Op) → next_ask left ≡ ask.Call object o → IsAsked x object o
 asked-well_formed x h t done left e object o asked =
     let first : slice_get left 0 ≡ Some (statement.Call object o) = first_of_left left object o asked in
     let there : slice_get (program_of x t) (done + 0) ≡ Some (statement.Call object o) =
@@ -105,41 +106,3 @@ call-no_stop o e = (call-plain o e).0
 -- what a call changes of a thread's life: nothing
 pub call-no_life : (o : Op) → is_call o ≡ true → (is_begin o ≡ false) × (is_end o ≡ false)
 call-no_life o e = ((call-plain o e).1, (call-plain o e).2)
-
--- the reply of an end doesn't wait
-end-fits : (k : Kind) (cut : Bool) → fits (op.End cut) k ≡ true → (n : ℕ) × (held : Bool) × (k ≡ kind.Thread n held)
-end-fits (kind.Thread n held) cut e = (n, held, refl)
-end-fits kind.Mutex cut e = absurd cc
-end-fits (kind.Sem value) cut e = absurd cc
-end-fits (kind.Hoare conditions) cut e = absurd cc
-end-fits (kind.Mesa conditions) cut e = absurd cc
-end-fits (kind.Barrier parties) cut e = absurd cc
-end-fits kind.Rw cut e = absurd cc
-end-fits kind.Sync cut e = absurd cc
-end-fits (kind.Async capacity) cut e = absurd cc
-end-fits (kind.Var value) cut e = absurd cc
-
-ends-at_once : (n : ℕ) (held : Bool) (own : Own) (s : State) (t : ℕ) (cut : Bool) (r : Reply) (s' : State)
-    → OwnStep (kind.Thread n held) own s t (op.End cut) r s' → is_wait r ≡ false
-ends-at_once n held (ThreadOwn true begun true [] joiners) s t true r s' e = ap is_wait e.0
-ends-at_once n held (ThreadOwn true begun true [] joiners) s t false r s' e = ap is_wait e.0
-ends-at_once n held (ThreadOwn true begun true (b ∷ bs) joiners) s t true r s' e = ap is_wait e.0
-ends-at_once n held (ThreadOwn true begun true (b ∷ bs) joiners) s t false r s' e = ap is_wait e.0
-ends-at_once n held (ThreadOwn true begun false [] joiners) s t true r s' e = ap is_wait e.0
-ends-at_once n held (ThreadOwn true begun false [] joiners) s t false r s' e = ap is_wait e.0
-ends-at_once n held (ThreadOwn true begun false (b ∷ bs) joiners) s t true r s' e = ap is_wait e.0
-ends-at_once n held (ThreadOwn true begun false (b ∷ bs) joiners) s t false r s' e = ap is_wait e.0
-ends-at_once n held (ThreadOwn false begun true [] joiners) s t true r s' e = ap is_wait e.0
-ends-at_once n held (ThreadOwn false begun true [] joiners) s t false r s' e = ap is_wait e.0
-ends-at_once n held (ThreadOwn false begun true (b ∷ bs) joiners) s t true r s' e = ap is_wait e.0
-ends-at_once n held (ThreadOwn false begun true (b ∷ bs) joiners) s t false r s' e = ap is_wait e.0
-ends-at_once n held (ThreadOwn false begun false [] joiners) s t true r s' e = ap is_wait e.0
-ends-at_once n held (ThreadOwn false begun false [] joiners) s t false r s' e = ap is_wait e.0
-ends-at_once n held (ThreadOwn false begun false (b ∷ bs) joiners) s t true r s' e = ap is_wait e.0
-ends-at_once n held (ThreadOwn false begun false (b ∷ bs) joiners) s t false r s' e = ap is_wait e.0
-ends-at_once n held own s t cut r s' e = elim e [ ]
-
-pub end-answers : (h : Held) (t : ℕ) (cut : Bool) (r : Reply) (s' : State) → Lawful h t (op.End cut) r s' → is_wait r ≡ false
-end-answers h t cut r s' e =
-    let k = end-fits h.kind cut e.may.fit in
-    ends-at_once k.0 k.1 h.state.own h.state t cut r s' (subst (λ (q : Kind). OwnStep q h.state.own h.state t (op.End cut) r s') k.2 e.step)

@@ -1,8 +1,10 @@
-pub mod Joint
+pub mod JointStates
 pub mod JointSteps
 pub mod Bars
 pub mod Ends
-pub mod Sound
+pub mod SoundStates
 pub mod Work
-pub mod Histories
+pub mod Projections
 pub mod Closing
+pub mod JointOrder
+pub mod RunnableThreads

@@ -4,7 +4,9 @@
 mod phases;
 
 ghost use Rattle.tm_replay.specs.Closing.{PrefixesAreClosed};
-ghost use Rattle.tm_replay.specs.Histories.{ObjectsHaveHistories, ThreadsHavePlaces};
+ghost use Rattle.tm_replay.specs.JointOrder.{RunsAreStamped, RunsAreWellPlaced};
+ghost use Rattle.tm_replay.specs.Projections.{ObjectsHaveHistories, ThreadsHavePlaces};
+ghost use Rattle.tm_replay.specs.RunnableThreads.{RunnableThreadsCanMove};
 
 pub use phases::Phase;
 
@@ -25,4 +27,23 @@ pub fn threads_have_places()
 /// happened before one of them stands before it.
 pub fn prefixes_are_closed()
     ensures { PrefixesAreClosed }
+{}
+
+/// In a joint run the places of each thread's events run from 1, each once, and so do the places at
+/// each object.
+pub fn runs_are_well_placed()
+    ensures { RunsAreWellPlaced }
+{}
+
+/// In a joint run each event's stamp is 1 plus the greatest stamp of its direct predecessors, which
+/// are the events with the place before its own in its thread and at its object; it is 1 where there
+/// is none. So the stamps are Lamport's clocks.
+pub fn runs_are_stamped()
+    ensures { RunsAreStamped }
+{}
+
+/// In a sound joint state of a well-formed exercise, what a runnable program thread may do by its phase
+/// and its program is on one of the exercise's objects, which can answer it.
+pub fn runnable_threads_can_move()
+    ensures { RunnableThreadsCanMove }
 {}

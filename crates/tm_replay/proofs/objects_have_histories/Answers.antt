@@ -1,5 +1,5 @@
 -- The law, event by event.
-use Rattle.tm_replay.proofs.Histories.{objects-have_histories}
+use Rattle.tm_replay.proofs.ProjectionsLemmas.{objects-have_histories}
 use Rattle.tm_replay.proofs.objects_have_histories.Goals as goal
 
 pub returns : goal.returns

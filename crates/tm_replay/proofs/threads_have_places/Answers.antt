@@ -1,5 +1,5 @@
 -- The law, event by event.
-use Rattle.tm_replay.proofs.Histories.{threads-have_places}
+use Rattle.tm_replay.proofs.ProjectionsLemmas.{threads-have_places}
 use Rattle.tm_replay.proofs.threads_have_places.Goals as goal
 
 pub returns : goal.returns

@@ -1,7 +1,7 @@
 -- The joint state of an exercise: all its objects and threads.
 use Rattle.std.specs.Prelude.{ℕ, List, [], ◌∷◌, map, length}
 use Rattle.tm_base.specs.declared.kinds.Kind.{Kind}
-use Rattle.tm_base.specs.Machines.{Held, fresh}
+use Rattle.tm_base.specs.Machines.{ObjectView, fresh}
 use Rattle.tm_text.specs.declared.exercises.Statement.{Statement}
 use Rattle.tm_text.specs.Exercises.{ExerciseView}
 use Rattle.tm_text.specs.Programs.{Rest, whole}
@@ -10,7 +10,7 @@ use Rattle.tm_replay.specs.declared.phases.Phase.TheVariants as phase
 
 -- Where a thread stands: its phase, the place of its next event, its last stamp (0 where it has none),
 -- how many calls it has made, and what is left of its program.
-pub record Standing : Type 0 where
+pub record ThreadState : Type 0 where
   pub phase : Phase
   pub next : ℕ
   pub stamp : ℕ
@@ -18,27 +18,27 @@ pub record Standing : Type 0 where
   pub rest : Rest
 
 -- Where an object stands: its machine, how many events it has, and its last stamp (0 where it has none).
-pub record Place : Type 0 where
-  pub held : Held
+pub record ObjectState : Type 0 where
+  pub view : ObjectView
   pub at : ℕ
   pub stamp : ℕ
 
 -- The objects from object 0, and the threads from `main`, which is thread 0.
-pub record Joint : Type 0 where
-  pub objects : List Place
-  pub standings : List Standing
+pub record JointState : Type 0 where
+  pub objects : List ObjectState
+  pub threads : List ThreadState
 
 -- A thread that has made no event.
-abbrev pub first_standing : Phase → List Statement → Standing
-first_standing p program = record { phase = p; next = 1; stamp = 0; made = 0; rest = whole program }
+abbrev pub first_thread_state : Phase → List Statement → ThreadState
+first_thread_state p program = record { phase = p; next = 1; stamp = 0; made = 0; rest = whole program }
 
 -- An object without events, for this number of threads.
-abbrev pub first_place : ℕ → Kind → Place
-first_place threads k = record { held = fresh k threads; at = 0; stamp = 0 }
+abbrev pub first_object_state : ℕ → Kind → ObjectState
+first_object_state threads k = record { view = fresh k threads; at = 0; stamp = 0 }
 
 -- Nothing has happened yet.
-abbrev pub start : ExerciseView → Joint
+abbrev pub start : ExerciseView → JointState
 start x = record {
-  objects = map (λ d. first_place (length x.programs) d.kind) x.objects;
-  standings = first_standing phase.Main [] ∷ map (first_standing phase.NotBegun) x.programs;
+  objects = map (λ d. first_object_state (length x.programs) d.kind) x.objects;
+  threads = first_thread_state phase.Main [] ∷ map (first_thread_state phase.NotBegun) x.programs;
 }

@@ -4,11 +4,11 @@ use Rattle.tm_base.specs.declared.replies.Reply.{Reply}
 use Rattle.tm_base.specs.States.{is_pending}
 use Rattle.tm_laws.specs.Tidy.{IsSound}
 use Rattle.tm_laws.specs.ThreadObjects.{has_begun, has_ended}
-use Rattle.tm_text.specs.declared.exercises.Declared.{Declared}
+use Rattle.tm_text.specs.declared.exercises.Declaration.{Declaration}
 use Rattle.tm_text.specs.Exercises.{ExerciseView, program_of, own_of}
 use Rattle.tm_replay.specs.declared.phases.Phase.{Phase}
 use Rattle.tm_replay.specs.declared.phases.Phase.TheVariants as phase
-use Rattle.tm_replay.specs.Joint.{Joint, Standing, Place}
+use Rattle.tm_replay.specs.JointStates.{JointState, ThreadState, ObjectState}
 
 -- The thread's call waits, or was granted and isn't resumed, at this object.
 abbrev pub waits_at : Phase → ℕ → Bool
@@ -40,15 +40,15 @@ IsAmong (phase.Waits object) objects = object < objects
 IsAmong p objects = Unit {0}
 
 -- The object is the one that the exercise declares, and sound.
-pub record IsPlaced (x : ExerciseView) (o : ℕ) (b : Place) : Type 0 where
-  pub declared : Declared
-  pub found : slice_get x.objects o ≡ Some declared
-  pub kind : b.held.kind ≡ declared.kind
-  pub threads : b.held.threads ≡ length x.programs
-  pub sound : IsSound b.held
+pub record IsObjectStateOf (x : ExerciseView) (o : ℕ) (b : ObjectState) : Type 0 where
+  pub declaration : Declaration
+  pub found : slice_get x.objects o ≡ Some declaration
+  pub kind : b.view.kind ≡ declaration.kind
+  pub threads : b.view.threads ≡ length x.programs
+  pub sound : IsSound b.view
 
 -- The thread goes on with the end of its program that is left.
-pub record IsStanding (x : ExerciseView) (t : ℕ) (s : Standing) : Type 0 where
+pub record IsThreadStateOf (x : ExerciseView) (t : ℕ) (s : ThreadState) : Type 0 where
   pub main : is_main s.phase ≡ (t == 0)
   pub done : ℕ
   pub left : s.rest.left ≡ drop done (program_of x t)
@@ -58,11 +58,11 @@ pub record IsStanding (x : ExerciseView) (t : ℕ) (s : Standing) : Type 0 where
 -- The joint state is sound: it has the exercise's objects and threads, each object is sound, each thread
 -- waits exactly where its call is pending, and each thread object knows whether its thread has begun and
 -- ended.
-pub record IsSoundJoint (x : ExerciseView) (j : Joint) : Type 0 where
+pub record IsSoundJoint (x : ExerciseView) (j : JointState) : Type 0 where
   pub object_count : length j.objects ≡ length x.objects
-  pub thread_count : length j.standings ≡ suc (length x.programs)
-  pub objects : (o : ℕ) (b : Place) → slice_get j.objects o ≡ Some b → IsPlaced x o b
-  pub standings : (t : ℕ) (s : Standing) → slice_get j.standings t ≡ Some s → IsStanding x t s
-  pub pending : (t o : ℕ) (s : Standing) (b : Place) → 1 ≤ t → slice_get j.standings t ≡ Some s → slice_get j.objects o ≡ Some b → is_pending b.held.state t ≡ waits_at s.phase o
-  pub life : (t : ℕ) (s : Standing) (b : Place) → 1 ≤ t → slice_get j.standings t ≡ Some s → slice_get j.objects (own_of x.objects t) ≡ Some b
-      → (has_begun b.held.state.own ≡ is_begun s.phase) × (has_ended b.held.state.own ≡ is_past s.phase)
+  pub thread_count : length j.threads ≡ suc (length x.programs)
+  pub objects : (o : ℕ) (b : ObjectState) → slice_get j.objects o ≡ Some b → IsObjectStateOf x o b
+  pub threads : (t : ℕ) (s : ThreadState) → slice_get j.threads t ≡ Some s → IsThreadStateOf x t s
+  pub pending : (t o : ℕ) (s : ThreadState) (b : ObjectState) → 1 ≤ t → slice_get j.threads t ≡ Some s → slice_get j.objects o ≡ Some b → is_pending b.view.state t ≡ waits_at s.phase o
+  pub life : (t : ℕ) (s : ThreadState) (b : ObjectState) → 1 ≤ t → slice_get j.threads t ≡ Some s → slice_get j.objects (own_of x.objects t) ≡ Some b
+      → (has_begun b.view.state.kind_state ≡ is_begun s.phase) × (has_ended b.view.state.kind_state ≡ is_past s.phase)
