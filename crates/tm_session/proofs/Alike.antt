@@ -6,9 +6,9 @@ use Rattle.tm_base.specs.declared.events.Entry.{Entry}
 use Rattle.tm_base.specs.States.{State}
 use Rattle.tm_base.specs.Histories.{Lawful}
 use Rattle.tm_laws.proofs.Determined.{Lawful-one, Lawful-reply}
-use Rattle.tm_replay.specs.Joint.{Joint, Standing, Place}
+use Rattle.tm_replay.specs.JointStates.{JointState, ThreadState, ObjectState}
 use Rattle.tm_replay.specs.JointSteps.{Happens, entered, stepped}
-use Rattle.tm_session.specs.Turns.{Turn}
+use Rattle.tm_session.specs.Turns.{RunState}
 
 -- records are the same where their fields are
 entry-alike : (d e : Entry) → d.thread ≡ e.thread → d.place ≡ e.place → d.object ≡ e.object → d.at ≡ e.at
@@ -25,54 +25,54 @@ entry-alike d e thread place object at stamp does reply =
     made : ℕ → ℕ → ℕ → ℕ → ℕ → Op → Reply → Entry
     made thread place object at stamp o r = record { thread = thread; place = place; object = object; at = at; stamp = stamp; op = o; reply = r }
 
-joint-alike : (j k : Joint) → j.objects ≡ k.objects → j.standings ≡ k.standings → j ≡ k
-joint-alike j k objects standings =
-    ap (λ (l : List Place). made l j.standings) objects ∙ ap (made k.objects) standings
+joint-alike : (j k : JointState) → j.objects ≡ k.objects → j.threads ≡ k.threads → j ≡ k
+joint-alike j k objects threads =
+    ap (λ (l : List ObjectState). made l j.threads) objects ∙ ap (made k.objects) threads
   where
-    made : List Place → List Standing → Joint
-    made objects standings = record { objects = objects; standings = standings }
+    made : List ObjectState → List ThreadState → JointState
+    made objects threads = record { objects = objects; threads = threads }
 
-pub turn-alike : (p q : Turn) → p.joint ≡ q.joint → p.last ≡ q.last → p.draw ≡ q.draw → p.stops ≡ q.stops → p ≡ q
+pub turn-alike : (p q : RunState) → p.joint ≡ q.joint → p.last ≡ q.last → p.draw ≡ q.draw → p.stops ≡ q.stops → p ≡ q
 turn-alike p q joint last draw stops =
     ap (λ j. made j p.last p.draw p.stops) joint
     ∙ ap (λ n. made q.joint n p.draw p.stops) last
     ∙ ap (λ n. made q.joint q.last n p.stops) draw
     ∙ ap (made q.joint q.last q.draw) stops
   where
-    made : Joint → ℕ → ℕ → List ℕ → Turn
+    made : JointState → ℕ → ℕ → List ℕ → RunState
     made joint last draw stops = record { joint = joint; last = last; draw = draw; stops = stops }
 
 -- one thread stands at one place
-pub same-standing : (j k m : Joint) (e f : Entry) (x : Happens j e k) (y : Happens j f m) → e.thread ≡ f.thread → x.standing ≡ y.standing
-same-standing j k m e f x y thread =
-    let found : Some x.standing ≡ Some y.standing = sym x.thread ∙ ap (slice_get j.standings) thread ∙ y.thread in cc
+pub same-thread_state : (j k m : JointState) (e f : Entry) (x : Happens j e k) (y : Happens j f m) → e.thread ≡ f.thread → x.thread_state ≡ y.thread_state
+same-thread_state j k m e f x y thread =
+    let found : Some x.thread_state ≡ Some y.thread_state = sym x.thread ∙ ap (slice_get j.threads) thread ∙ y.thread in cc
 
-same-spot : (j k m : Joint) (e f : Entry) (x : Happens j e k) (y : Happens j f m) → e.object ≡ f.object → x.spot ≡ y.spot
-same-spot j k m e f x y object =
-    let found : Some x.spot ≡ Some y.spot = sym x.object ∙ ap (slice_get j.objects) object ∙ y.object in cc
+same-object_state : (j k m : JointState) (e f : Entry) (x : Happens j e k) (y : Happens j f m) → e.object ≡ f.object → x.object_state ≡ y.object_state
+same-object_state j k m e f x y object =
+    let found : Some x.object_state ≡ Some y.object_state = sym x.object ∙ ap (slice_get j.objects) object ∙ y.object in cc
 
-pub Happens-one : (j k m : Joint) (e f : Entry) → Happens j e k → Happens j f m
+pub Happens-one : (j k m : JointState) (e f : Entry) → Happens j e k → Happens j f m
     → e.thread ≡ f.thread → e.object ≡ f.object → e.op ≡ f.op → (e ≡ f) × (k ≡ m)
 Happens-one j k m e f x y thread object does =
-    let seat : x.standing ≡ y.standing = same-standing j k m e f x y thread in
-    let spot : x.spot ≡ y.spot = same-spot j k m e f x y object in
-    let by : Lawful y.spot.held f.thread f.op e.reply x.state =
-    subst (λ (o : Op). Lawful y.spot.held f.thread o e.reply x.state) does
-    (subst (λ (t : ℕ). Lawful y.spot.held t e.op e.reply x.state) thread
-    (subst (λ (b : Place). Lawful b.held e.thread e.op e.reply x.state) spot x.lawful)) in
-    let reply : e.reply ≡ f.reply = Lawful-reply y.spot.held f.thread f.op e.reply f.reply x.state y.state by y.lawful in
-    let state : x.state ≡ y.state = Lawful-one y.spot.held f.thread f.op f.reply x.state y.state
-    (subst (λ (r : Reply). Lawful y.spot.held f.thread f.op r x.state) reply by) y.lawful in
-    let place : e.place ≡ f.place = x.place ∙ ap (λ (s : Standing). s.next) seat ∙ sym y.place in
-    let at : e.at ≡ f.at = x.at ∙ ap (λ (b : Place). suc b.at) spot ∙ sym y.at in
-    let stamp : e.stamp ≡ f.stamp = x.stamp ∙ ap (λ (s : Standing). suc (max s.stamp x.spot.stamp)) seat
-    ∙ ap (λ (b : Place). suc (max y.standing.stamp b.stamp)) spot ∙ sym y.stamp in
+    let seat : x.thread_state ≡ y.thread_state = same-thread_state j k m e f x y thread in
+    let object_state : x.object_state ≡ y.object_state = same-object_state j k m e f x y object in
+    let by : Lawful y.object_state.view f.thread f.op e.reply x.state =
+    subst (λ (o : Op). Lawful y.object_state.view f.thread o e.reply x.state) does
+    (subst (λ (t : ℕ). Lawful y.object_state.view t e.op e.reply x.state) thread
+    (subst (λ (b : ObjectState). Lawful b.view e.thread e.op e.reply x.state) object_state x.lawful)) in
+    let reply : e.reply ≡ f.reply = Lawful-reply y.object_state.view f.thread f.op e.reply f.reply x.state y.state by y.lawful in
+    let state : x.state ≡ y.state = Lawful-one y.object_state.view f.thread f.op f.reply x.state y.state
+    (subst (λ (r : Reply). Lawful y.object_state.view f.thread f.op r x.state) reply by) y.lawful in
+    let place : e.place ≡ f.place = x.place ∙ ap (λ (s : ThreadState). s.next) seat ∙ sym y.place in
+    let at : e.at ≡ f.at = x.at ∙ ap (λ (b : ObjectState). suc b.at) object_state ∙ sym y.at in
+    let stamp : e.stamp ≡ f.stamp = x.stamp ∙ ap (λ (s : ThreadState). suc (max s.stamp x.object_state.stamp)) seat
+    ∙ ap (λ (b : ObjectState). suc (max y.thread_state.stamp b.stamp)) object_state ∙ sym y.stamp in
     let event : e ≡ f = entry-alike e f thread place object at stamp does reply in
     let objects : k.objects ≡ m.objects = x.objects
-    ∙ ap (λ (d : Entry). slice_set j.objects d.object (entered x.spot d x.state)) event
-    ∙ ap (λ (b : Place). slice_set j.objects f.object (entered b f x.state)) spot
-    ∙ ap (λ (s : State). slice_set j.objects f.object (entered y.spot f s)) state ∙ sym y.objects in
-    let standings : k.standings ≡ m.standings = x.standings
-    ∙ ap (λ (d : Entry). slice_set j.standings d.thread (stepped x.standing d)) event
-    ∙ ap (λ (s : Standing). slice_set j.standings f.thread (stepped s f)) seat ∙ sym y.standings in
-    (event, joint-alike k m objects standings)
+    ∙ ap (λ (d : Entry). slice_set j.objects d.object (entered x.object_state d x.state)) event
+    ∙ ap (λ (b : ObjectState). slice_set j.objects f.object (entered b f x.state)) object_state
+    ∙ ap (λ (s : State). slice_set j.objects f.object (entered y.object_state f s)) state ∙ sym y.objects in
+    let threads : k.threads ≡ m.threads = x.threads
+    ∙ ap (λ (d : Entry). slice_set j.threads d.thread (stepped x.thread_state d)) event
+    ∙ ap (λ (s : ThreadState). slice_set j.threads f.thread (stepped s f)) seat ∙ sym y.threads in
+    (event, joint-alike k m objects threads)

@@ -4,7 +4,7 @@ use Rattle.std.proofs.lemmas.Bool.{cases_Bool, false≢true}
 use Rattle.tm_base.specs.declared.replies.Reply.{Reply}
 use Rattle.tm_base.specs.States.{State, grant_of, is_pending, is_waiting}
 use Rattle.tm_laws.specs.Tidy.{IsTidy}
-use Rattle.tm_laws.proofs.Waiters.{waiting-ungranted, pending-waits}
+use Rattle.tm_laws.proofs.WaitersLemmas.{waiting-ungranted, pending-waits}
 
 -- a pending call waits exactly where no reply was granted
 pub blocked : (threads : ℕ) (s : State) (t : ℕ) → IsTidy threads s → is_pending s t ≡ true → not (is_some (grant_of s t)) ≡ is_waiting s t

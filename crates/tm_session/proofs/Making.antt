@@ -4,12 +4,12 @@ use Rattle.std.specs.List.{cons_option}
 use Rattle.tm_base.specs.declared.kinds.Kind.{Kind}
 use Rattle.tm_base.specs.declared.kinds.Kind.TheVariants as kind
 use Rattle.tm_book.specs.Made.{CanMake, CanBe}
-use Rattle.tm_text.specs.declared.exercises.Declared.{Declared}
+use Rattle.tm_text.specs.declared.exercises.Declaration.{Declaration}
 use Rattle.tm_text.specs.Exercises.{ExerciseView, IsWellFormed, IsKindRead, thread_of, thread_of_kind}
 use Rattle.tm_session.proofs.Growing.{range_known}
 
 -- a thread that an object stands for is among the numbers of threads
-listed : (ds : List Declared) (o : ℕ) (d : Declared) (t : ℕ) → slice_get ds o ≡ Some d → thread_of d ≡ Some t → (k : ℕ) × (slice_get (filter_map thread_of ds) k ≡ Some t)
+listed : (ds : List Declaration) (o : ℕ) (d : Declaration) (t : ℕ) → slice_get ds o ≡ Some d → thread_of d ≡ Some t → (k : ℕ) × (slice_get (filter_map thread_of ds) k ≡ Some t)
 listed [] o d t h e = absurd cc
 listed (c ∷ ds) zero d t h e =
     let same : c ≡ d = cc in (0, ap (λ n. slice_get (cons_option n (filter_map thread_of ds)) 0) (ap thread_of same ∙ e))
@@ -20,7 +20,7 @@ listed (c ∷ ds) (suc o) d t h e = go (thread_of c) refl (listed ds o d t h e)
     go (Some n) is later = (suc later.0, ap (λ m. slice_get (cons_option m (filter_map thread_of ds)) (suc later.0)) is ∙ later.1)
 
 -- each object that was declared can be made
-pub can_make : (x : ExerciseView) → IsWellFormed x → (o : ℕ) (d : Declared) → slice_get x.objects o ≡ Some d → CanMake d.kind (length x.programs)
+pub can_make : (x : ExerciseView) → IsWellFormed x → (o : ℕ) (d : Declaration) → slice_get x.objects o ≡ Some d → CanMake d.kind (length x.programs)
 can_make x formed o d found = record { few = formed.few_threads; kind = go d.kind refl (formed.kinds o d found) }
   where
     go : (k : Kind) → d.kind ≡ k → IsKindRead k → CanBe k (length x.programs)

@@ -2,13 +2,13 @@
 use Rattle.std.proofs.Common.{◌≡◌, ℕ, List, slice_get, Some, sym, ◌∙◌, subst}
 use Rattle.tm_base.specs.declared.events.Entry.{Entry}
 use Rattle.tm_base.specs.Histories.{IsHistory}
-use Rattle.tm_book.specs.Books.{BookView, point_of}
+use Rattle.tm_book.specs.Books.{BookView, history_state_of}
 use Rattle.tm_text.specs.Exercises.{ExerciseView}
 use Rattle.tm_replay.specs.JointSteps.{IsJointRun}
-use Rattle.tm_replay.specs.Sound.{IsSoundJoint}
-use Rattle.tm_replay.proofs.Histories.{objects-have_histories}
+use Rattle.tm_replay.specs.SoundStates.{IsSoundJoint}
+use Rattle.tm_replay.proofs.ProjectionsLemmas.{objects-have_histories}
 use Rattle.tm_session.specs.declared.scenes.Scene.{Scene}
-use Rattle.tm_session.specs.Acting.{place_of}
+use Rattle.tm_session.specs.Acting.{object_state_of}
 use Rattle.tm_session.specs.Scenes.{joint_of, HasKept}
 use Rattle.tm_session.specs.Shelves.{IsBookOf, AreBooksOf}
 use Rattle.tm_session.proofs.Scenery.{book-at, count-books}
@@ -20,16 +20,16 @@ books-left x es s sound run kept = record { count = sym (count-books s) ∙ soun
     each : (o : ℕ) (b : BookView) → slice_get s.books.items o ≡ Some b → IsBookOf x es o b
     each o b found =
         let at = book-at s o b found in
-        let placed = sound.objects o (place_of b) at in
+        let placed = sound.objects o (object_state_of b) at in
         let own = kept.books o b found in
-        let history = objects-have_histories x es (joint_of s) run o (place_of b) at in
+        let history = objects-have_histories x es (joint_of s) run o (object_state_of b) at in
         record {
-          declared = placed.declared;
+          declaration = placed.declaration;
           found = placed.found;
           object = own.0;
           kind = placed.kind;
           threads = placed.threads;
           entries = own.1;
-          history = subst (λ (n : ℕ). IsHistory (record { object = n; kind = b.machine.kind; threads = b.machine.threads }) b.entries (point_of b)) (sym own.0)
-              (subst (λ (l : List Entry). IsHistory (record { object = o; kind = b.machine.kind; threads = b.machine.threads }) l (point_of b)) (sym own.1) history);
+          history = subst (λ (n : ℕ). IsHistory (record { object = n; kind = b.machine.kind; threads = b.machine.threads }) b.entries (history_state_of b)) (sym own.0)
+              (subst (λ (l : List Entry). IsHistory (record { object = o; kind = b.machine.kind; threads = b.machine.threads }) l (history_state_of b)) (sym own.1) history);
         }

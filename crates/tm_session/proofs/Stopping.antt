@@ -3,18 +3,18 @@ use Rattle.std.proofs.Common.{◌≡◌, ◌≢◌, ℕ, zero, suc, ◌+◌, ◌
 use Rattle.std.specs.List.{range_with_len, list_all, AllByRecursion}
 use Rattle.std.proofs.lemmas.Bool.{cases_Bool, false≢true}
 use Rattle.std.proofs.lemmas.Option.{slice_get_within}
-use Rattle.tm_base.specs.declared.outcomes.Bar.{Bar}
-use Rattle.tm_base.specs.declared.outcomes.Bar.TheVariants as bar
+use Rattle.tm_base.specs.declared.bars.Bar.{Bar}
+use Rattle.tm_base.specs.declared.bars.Bar.TheVariants as bar
 use Rattle.tm_base.specs.States.{is_queued, queued}
 use Rattle.tm_text.specs.Exercises.{ExerciseView}
 use Rattle.tm_replay.specs.declared.phases.Phase.{Phase}
 use Rattle.tm_replay.specs.declared.phases.Phase.TheVariants as phase
-use Rattle.tm_replay.specs.Joint.{Joint, Standing, Place}
+use Rattle.tm_replay.specs.JointStates.{JointState, ThreadState, ObjectState}
 use Rattle.tm_replay.specs.Bars.{bar_of, bar_for, bar_in, bars_of, is_runnable, is_ended, is_over, is_stuck, waits_in, is_some_queued, has_waiter, waited_objects}
-use Rattle.tm_replay.specs.Sound.{IsSoundJoint, IsAmong}
+use Rattle.tm_replay.specs.SoundStates.{IsSoundJoint, IsAmong}
 use Rattle.tm_session.specs.Running.{AreWaited}
 use Rattle.tm_session.specs.Turns.{due_by}
-use Rattle.tm_session.proofs.Choosing.{bar-at, bars-count}
+use Rattle.tm_session.proofs.ChoicesLemmas.{bar-at, bars-count}
 
 -- what a range keeps rises from its start
 filter-rises : (p : ℕ → Bool) (low a n : ℕ) → low < a → AllByRecursion (λ k. low < k) (filter p (range_with_len a n))
@@ -25,7 +25,7 @@ filter-rises p low a (suc n) h = go (p a) (filter-rises p low (a + 1) n (omega (
     go true later = (h, later)
     go false later = later
 
-waited-range : (j : Joint) (a n : ℕ) → AreWaited j (filter (λ o. has_waiter (slice_get j.objects o)) (range_with_len a n))
+waited-range : (j : JointState) (a n : ℕ) → AreWaited j (filter (λ o. has_waiter (slice_get j.objects o)) (range_with_len a n))
 waited-range j a zero = tt
 waited-range j a (suc n) = go (has_waiter (slice_get j.objects a)) refl (waited-range j (a + 1) n)
   where
@@ -36,7 +36,7 @@ waited-range j a (suc n) = go (has_waiter (slice_get j.objects a)) refl (waited-
     go false e later = later
 
 -- those that are due have waiters
-pub due-waited : (j : Joint) (stops : List ℕ) → AreWaited j stops → AreWaited j (due_by stops j)
+pub due-waited : (j : JointState) (stops : List ℕ) → AreWaited j stops → AreWaited j (due_by stops j)
 due-waited j (o ∷ os) h = h
 due-waited j [] h = go (is_stuck (bars_of j))
   where
@@ -92,7 +92,7 @@ blocked-bar bar.Granted e h = absurd (false≢true h)
 blocked-bar bar.Ended e h = absurd (false≢true (sym e))
 
 -- in a stuck state an object has a waiter
-pub stuck-waited : (x : ExerciseView) (j : Joint) → IsSoundJoint x j → is_stuck (bars_of j) ≡ true → waited_objects j ≢ []
+pub stuck-waited : (x : ExerciseView) (j : JointState) → IsSoundJoint x j → is_stuck (bars_of j) ≡ true → waited_objects j ≢ []
 stuck-waited x j sound stuck none =
     let parts = stuck-parts (is_over (bars_of j)) (list_all (λ b. not (is_runnable b)) (bars_of j)) stuck in
     let going = some-fails is_ended (bars_of j) parts.0 in
@@ -102,19 +102,19 @@ stuck-waited x j sound stuck none =
     let same : going.1 ≡ bar_of j (suc going.0) = cc in
     blocks (suc going.0) (sym same ∙ blocked-bar going.1 going.3 idle)
   where
-    at_object : (t object : ℕ) (s : Standing) → slice_get j.standings t ≡ Some s → s.phase ≡ phase.Waits object → waits_in (slice_get j.objects object) t ≡ true → ⊥
+    at_object : (t object : ℕ) (s : ThreadState) → slice_get j.threads t ≡ Some s → s.phase ≡ phase.Waits object → waits_in (slice_get j.objects object) t ≡ true → ⊥
     at_object t object s seat e waits =
-        let among : object < length x.objects = subst (λ (p : Phase). IsAmong p (length x.objects)) e (sound.standings t s seat).among in
+        let among : object < length x.objects = subst (λ (p : Phase). IsAmong p (length x.objects)) e (sound.threads t s seat).among in
         filter-has (λ o. has_waiter (slice_get j.objects o)) 0 (length j.objects) object (omega arith) (omega (arith, among, sound.object_count)) (by_place (slice_get j.objects object) waits) none
       where
-        by_place : (o : Option Place) → waits_in o t ≡ true → has_waiter o ≡ true
+        by_place : (o : Option ObjectState) → waits_in o t ≡ true → has_waiter o ≡ true
         by_place None h = absurd (false≢true h)
-        by_place (Some b) h = queued-some (queued b.held.state.own) t h
+        by_place (Some b) h = queued-some (queued b.view.state.kind_state) t h
 
     blocks : (t : ℕ) → bar_of j t ≡ bar.Blocked → ⊥
-    blocks t h = by_seat (slice_get j.standings t) refl
+    blocks t h = by_seat (slice_get j.threads t) refl
       where
-        by_phase : (s : Standing) (p : Phase) → slice_get j.standings t ≡ Some s → s.phase ≡ p → bar_in j t p ≡ bar.Blocked → ⊥
+        by_phase : (s : ThreadState) (p : Phase) → slice_get j.threads t ≡ Some s → s.phase ≡ p → bar_in j t p ≡ bar.Blocked → ⊥
         by_phase s phase.Main seat e h = cc
         by_phase s phase.NotBegun seat e h = cc
         by_phase s phase.Free seat e h = cc
@@ -125,12 +125,12 @@ stuck-waited x j sound stuck none =
             by_test true w h = at_object t object s seat e w
             by_test false w h = cc
 
-        by_seat : (o : Option Standing) → slice_get j.standings t ≡ o → ⊥
+        by_seat : (o : Option ThreadState) → slice_get j.threads t ≡ o → ⊥
         by_seat None e = let f : bar.Unborn ≡ bar.Blocked = sym (ap (bar_for j t) e) ∙ h in cc
         by_seat (Some s) e = by_phase s s.phase e refl (sym (ap (bar_for j t) e) ∙ h)
 
 -- where nothing is due the state isn't stuck
-pub none-due : (x : ExerciseView) (j : Joint) (stops : List ℕ) → IsSoundJoint x j → due_by stops j ≡ [] → (is_stuck (bars_of j) ≡ false) × (stops ≡ [])
+pub none-due : (x : ExerciseView) (j : JointState) (stops : List ℕ) → IsSoundJoint x j → due_by stops j ≡ [] → (is_stuck (bars_of j) ≡ false) × (stops ≡ [])
 none-due x j (o ∷ os) sound h = absurd cc
 none-due x j [] sound h = (⊎_elim (λ (stuck : is_stuck (bars_of j) ≡ true). absurd (stuck-waited x j sound stuck (sym (ap (λ b. if b then waited_objects j else []) stuck) ∙ h))) (λ (free : is_stuck (bars_of j) ≡ false). free) (cases_Bool (is_stuck (bars_of j))), refl)
 
@@ -142,7 +142,7 @@ slice_get-set_other (x ∷ xs) zero (suc k) v ne = refl
 slice_get-set_other (x ∷ xs) (suc i) zero v ne = refl
 slice_get-set_other (x ∷ xs) (suc i) (suc k) v ne = slice_get-set_other xs i k v (λ e. ne (ap suc e))
 
-pub waited-after : (j k : Joint) (o : ℕ) (b : Place) → k.objects ≡ slice_set j.objects o b → (os : List ℕ) → AllByRecursion (λ p. o < p) os → AreWaited j os → AreWaited k os
+pub waited-after : (j k : JointState) (o : ℕ) (b : ObjectState) → k.objects ≡ slice_set j.objects o b → (os : List ℕ) → AllByRecursion (λ p. o < p) os → AreWaited j os → AreWaited k os
 waited-after j k o b set [] above h = tt
 waited-after j k o b set (p ∷ os) above h =
     let apart : p ≢ o = λ e. omega (arith, above.0, e) in

@@ -1,8 +1,9 @@
 -- The thread that moves next, by the bars and the schedule.
 use Rattle.std.specs.Prelude.{ℕ, zero, suc, ◌+◌, ◌-◌, ◌*◌, ◌/◌, ◌%◌, ◌^◌, ◌==◌, Bool, false, if◌then◌else◌, List, ◌++◌, length, filter, find, slice_get, Option, Some, None}
 use Rattle.std.specs.List.{range_with_len}
-use Rattle.tm_base.specs.declared.outcomes.Bar.{Bar}
+use Rattle.tm_base.specs.declared.bars.Bar.{Bar}
 use Rattle.tm_replay.specs.Bars.{is_runnable}
+use Rattle.tm_session.specs.declared.choices.TheConstants.{INCREMENT, MULTIPLIER}
 
 -- The threads in cyclic order, beginning after `last`.
 abbrev pub cyclic : ℕ → ℕ → List ℕ
@@ -28,7 +29,7 @@ runnable_threads bars = filter (runs_at bars) (range_with_len 1 (length bars))
 -- The number that is drawn after this one: the linear congruential generator of Knuth's MMIX computer, of
 -- 64 bits.
 abbrev pub next_draw : ℕ → ℕ
-next_draw x = (x * 6364136223846793005 + 1442695040888963407) % 2 ^ 64
+next_draw x = (x * MULTIPLIER + INCREMENT) % 2 ^ 64
 
 -- The thread that a number picks out of some: the one at the place that its upper 31 bits leave when they
 -- are divided by how many there are.

@@ -3,11 +3,12 @@ pub mod Turns
 pub mod Seats
 pub mod StoredSeats
 pub mod Acting
-pub mod Pages
+pub mod Transcripts
 pub mod Sending
 pub mod Scenes
 pub mod Running
 pub mod Sessions
 pub mod Shelves
-pub mod Cuts
-pub mod Oneness
+pub mod CutThreads
+pub mod Determinism
+pub mod AloneEnds

@@ -4,21 +4,21 @@ use Rattle.std.specs.List.{AllByRecursion}
 use Rattle.tm_base.specs.declared.operations.Op.TheVariants as op
 use Rattle.tm_base.specs.declared.events.Entry.{Entry}
 use Rattle.tm_text.specs.Exercises.{ExerciseView, IsWellFormed}
-use Rattle.tm_replay.specs.Joint.{Joint}
+use Rattle.tm_replay.specs.JointStates.{JointState}
 use Rattle.tm_replay.specs.JointSteps.{JointStep}
 use Rattle.tm_replay.specs.Bars.{bars_of, has_waiter}
-use Rattle.tm_replay.specs.Sound.{IsSoundJoint}
+use Rattle.tm_replay.specs.SoundStates.{IsSoundJoint}
 use Rattle.tm_session.specs.declared.turns.Run.{Run}
 use Rattle.tm_session.specs.Scenes.{joint_of, IsEarly, HasKeptAll}
 use Rattle.tm_session.specs.declared.rules.Rules.{Rules}
 use Rattle.tm_session.specs.Choices.{chosen_thread, draw_after}
-use Rattle.tm_session.specs.Turns.{Turn, KeepsLimit}
+use Rattle.tm_session.specs.Turns.{RunState, KeepsLimit}
 
-abbrev pub turn_of : Run → Turn
-turn_of run = record { joint = joint_of run.scene; last = run.last; draw = run.draw; stops = run.stops.items }
+abbrev pub run_state_of : Run → RunState
+run_state_of run = record { joint = joint_of run.scene; last = run.last; draw = run.draw; stops = run.stops.items }
 
 -- The objects rise, and each has a waiter.
-abbrev pub AreWaited : Joint → List ℕ → Type 0
+abbrev pub AreWaited : JointState → List ℕ → Type 0
 AreWaited j [] = Unit {0}
 AreWaited j (o ∷ os) = (has_waiter (slice_get j.objects o) ≡ true) × AllByRecursion (λ p. o < p) os × AreWaited j os
 
@@ -55,6 +55,6 @@ pub record MovesOn (x : ExerciseView) (rules : Rules) (old : Run) (e : Entry) (n
   pub step : JointStep x (joint_of old.scene) e (joint_of new.scene)
   pub draw : new.draw ≡ draw_after rules.schedule old.draw
   pub chosen : chosen_thread rules.schedule (bars_of (joint_of old.scene)) old.last new.draw ≡ Some e.thread
-  pub limit : KeepsLimit rules.limit step.happens.standing e.op
+  pub limit : KeepsLimit rules.limit step.happens.thread_state e.op
   pub stops : new.stops.items ≡ old.stops.items
   pub last : new.last ≡ e.thread

@@ -3,13 +3,13 @@ use Rattle.std.specs.Prelude.{◌≡◌, ℕ, ◌+◌, ◌≤◌, List, length, 
 use Rattle.tm_text.specs.Exercises.{ExerciseView, IsWellFormed}
 use Rattle.tm_replay.specs.Bars.{bars_of}
 use Rattle.tm_replay.specs.Work.{IsCounted, work}
-use Rattle.tm_replay.specs.Sound.{IsSoundJoint}
+use Rattle.tm_replay.specs.SoundStates.{IsSoundJoint}
 use Rattle.tm_session.specs.declared.sessions.Session.{Session}
 use Rattle.tm_session.specs.declared.rules.Rules.{Rules}
 use Rattle.tm_session.specs.Scenes.{joint_of, HasKept}
 use Rattle.tm_session.specs.Turns.{BeginsAlone}
-use Rattle.tm_session.specs.Pages.{Page, AreRows}
-use Rattle.tm_session.specs.Running.{turn_of, AreWaited}
+use Rattle.tm_session.specs.Transcripts.{Transcript, AreRows}
+use Rattle.tm_session.specs.Running.{run_state_of, AreWaited}
 use Rattle.tm_session.specs.Sending.{IsSent}
 
 -- The session is under way: its joint state is sound, its places and stamps are at most the number of
@@ -23,14 +23,14 @@ pub record IsUnderWay (x : ExerciseView) (rules : Rules) (s : Session) : Type 0 
   pub counted : IsCounted (length s.shown.items) (joint_of s.run.scene)
   pub bounded : length s.shown.items + work (joint_of s.run.scene) ≤ 1000000
   pub bars : s.bars.items ≡ bars_of (joint_of s.run.scene)
-  pub begins : BeginsAlone x rules s.shown.items (turn_of s.run)
+  pub begins : BeginsAlone x rules s.shown.items (run_state_of s.run)
   pub kept : HasKept s.shown.items s.run.scene
 
 -- The rows of the events so far were sent to the sink, whose counts of faults and bytes these are at the
 -- start and now.
 pub record HasSent (x : ExerciseView) (s : Session) (before now : ℕ) (old new : Option (List ℕ)) : Type 0 where
-  pub page : Page
-  pub rows : AreRows x s.shown.items page
-  pub same : page.joint ≡ joint_of s.run.scene
-  pub count : page.count ≡ length s.shown.items
-  pub sent : IsSent s.failed before now old new page.rows
+  pub transcript : Transcript
+  pub rows : AreRows x s.shown.items transcript
+  pub same : transcript.joint ≡ joint_of s.run.scene
+  pub count : transcript.count ≡ length s.shown.items
+  pub sent : IsSent s.failed before now old new transcript.rows

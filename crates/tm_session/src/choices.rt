@@ -6,6 +6,12 @@ ghost use Rattle.tm_session.specs.Choices.{chosen_thread, draw_after, next_draw,
 use std::alloc::Global;
 use tm_base::{Bar, NoMemory};
 
+/// What the generator multiplies a number by: Knuth's multiplier for MMIX.
+const MULTIPLIER: u64 = 6_364_136_223_846_793_005;
+
+/// What the generator adds then: Knuth's increment for MMIX.
+const INCREMENT: u64 = 1_442_695_040_888_963_407;
+
 /// The thread that moves, by the bars, the schedule, the thread that moved last and the number that was
 /// drawn for this move.
 pub fn choose(
@@ -37,8 +43,7 @@ pub fn draw_after(schedule: u64, draw: u64) -> u64
 fn next_draw(draw: u64) -> u64
     ensures { result ≡ next_draw draw }
 {
-    draw.wrapping_mul(6_364_136_223_846_793_005)
-        .wrapping_add(1_442_695_040_888_963_407)
+    draw.wrapping_mul(MULTIPLIER).wrapping_add(INCREMENT)
 }
 
 /// The runnable threads, in rising number.

@@ -1,12 +1,12 @@
 ghost use Rattle.std.specs.Prelude.{◌≡◌, ◌≤◌, All, IfOk, Some, length};
 ghost use Rattle.tm_timeline.specs.Rows.{IsProgramThread};
-ghost use Rattle.tm_replay.specs.Sound.{IsSoundJoint};
+ghost use Rattle.tm_replay.specs.SoundStates.{IsSoundJoint};
 ghost use Rattle.tm_replay.specs.Ends.{end_of, is_cut, is_cut_by_limit, named_of, threads_where};
 ghost use Rattle.tm_session.specs.Scenes.{joint_of};
-ghost use Rattle.tm_session.specs.Cuts.{test_of};
+ghost use Rattle.tm_session.specs.CutThreads.{test_of};
 
 use crate::scenes::Scene;
-use crate::seats::{Seat, is_stopped};
+use crate::seats::Seat;
 use std::alloc::Global;
 use tm_base::{End, NoMemory};
 use tm_replay::Phase;
@@ -17,8 +17,8 @@ use tm_text::Exercise;
 pub enum Cut {
     /// An object that was stopped, or the limit of calls.
     Any,
-    /// The limit of calls.
-    ByLimit,
+    /// This limit of calls.
+    ByLimit(u32),
 }
 
 /// How a run ended, and the threads that its last line names, in rising number.
@@ -29,14 +29,19 @@ pub struct Ending {
 }
 
 impl Ending {
-    /// The ending that the scene shows.
-    pub fn of(alloc: Global, exercise: &Exercise, scene: &Scene) -> Result<Ending, NoMemory>
+    /// The ending that the scene shows, under this limit of calls.
+    pub fn of(
+        alloc: Global,
+        exercise: &Exercise,
+        scene: &Scene,
+        limit: u32,
+    ) -> Result<Ending, NoMemory>
         requires { IsSoundJoint exercise.now (joint_of scene.now) }
-        ensures end { IfOk result (λ ending. ending.end ≡ end_of (joint_of scene.now)) }
-        ensures named { IfOk result (λ ending. ending.named.items ≡ named_of (joint_of scene.now)) }
+        ensures end { IfOk result (λ ending. ending.end ≡ end_of limit (joint_of scene.now)) }
+        ensures named { IfOk result (λ ending. ending.named.items ≡ named_of limit (joint_of scene.now)) }
         ensures known { IfOk result (λ ending. All (IsProgramThread exercise.now) ending.named.items) }
     {
-        let limited = cut_threads(alloc, exercise, scene, Cut::ByLimit)?;
+        let limited = cut_threads(alloc, exercise, scene, Cut::ByLimit(limit))?;
         if !limited.is_empty() {
             return Ok(Ending {
                 end: End::Budget,
@@ -75,11 +80,11 @@ fn cut_threads(
 
 /// Whether the thread ended so.
 fn was_cut(seat: &Seat, cut: Cut) -> bool
-    ensures { result ≡ test_of cut (Some seat.now.standing) }
+    ensures { result ≡ test_of cut (Some seat.now.thread_state) }
 {
     let ended = matches!(seat.phase(), Phase::Ended { cut: true });
     match cut {
         Cut::Any => ended,
-        Cut::ByLimit => ended && !is_stopped(seat.last()),
+        Cut::ByLimit(limit) => ended && seat.made() == limit && seat.asks_more(),
     }
 }

@@ -1,14 +1,14 @@
 ghost use Rattle.std.specs.Prelude.{◌≡◌, ◌≤◌, ◌<◌, [], ◌∷◌, ◌++◌, List, IfOk, length, map};
 ghost use Rattle.tm_text.specs.Exercises.{IsWellFormed};
-ghost use Rattle.tm_replay.specs.Joint.{start, first_place, first_standing};
-ghost use Rattle.tm_replay.specs.Sound.{IsSoundJoint};
+ghost use Rattle.tm_replay.specs.JointStates.{start, first_object_state, first_thread_state};
+ghost use Rattle.tm_replay.specs.SoundStates.{IsSoundJoint};
 ghost use Rattle.tm_replay.specs.Bars.{bar_in, bar_of, bars_of, waited_objects};
-ghost use Rattle.tm_session.specs.Acting.{place_of};
+ghost use Rattle.tm_session.specs.Acting.{object_state_of};
 ghost use Rattle.tm_session.specs.Scenes.{joint_of, AreFresh, AreNumbered, CanPerform, CanShow, HasKept, HasKeptAll, Performs};
 
-use crate::books::{blocks, has_waiter};
+use crate::book_calls::{blocks, has_waiter};
+use crate::next_calls::NextCall;
 use crate::seats::Seat;
-use crate::wishes::Wish;
 use std::alloc::Global;
 use std::collections::VecDeque;
 use tm_base::{Bar, Entry, NoMemory};
@@ -43,21 +43,21 @@ impl Scene {
         self.books
     }
 
-    /// Makes the event that the thread wishes. Only want of memory refuses it.
-    pub fn perform(&mut self, thread: u32, wish: Wish) -> Result<Entry, NoMemory>
-        requires can { CanPerform (joint_of self.old) thread wish }
+    /// Makes the thread's next event. Only running out of memory refuses it.
+    pub fn perform(&mut self, thread: u32, next_call: NextCall) -> Result<Entry, NoMemory>
+        requires can { CanPerform (joint_of self.old) thread next_call }
         requires kept { HasKeptAll self.old }
-        ensures performs { IfOk result (λ e. Performs (joint_of self.old) thread wish e (joint_of self.new)) }
+        ensures performs { IfOk result (λ e. Performs (joint_of self.old) thread next_call e (joint_of self.new)) }
         ensures keeps { (es : List Entry) → HasKept es self.old → IfOk result (λ e. HasKept (es ++ e ∷ []) self.new) }
     {
-        let book = &mut self.books[wish.object as usize];
-        self.seats[thread as usize].act(book, wish.op)
+        let book = &mut self.books[next_call.object as usize];
+        self.seats[thread as usize].act(book, next_call.op)
     }
 
     /// What the thread does now. The thread is 1 to the number of threads.
     pub fn bar(&self, exercise: &Exercise, thread: u32) -> Bar
         requires program { 1 ≤ thread }
-        requires known { thread < length (joint_of self.now).standings }
+        requires known { thread < length (joint_of self.now).threads }
         requires sound { IsSoundJoint exercise.now (joint_of self.now) }
         ensures { result ≡ bar_of (joint_of self.now) thread }
     {
@@ -121,8 +121,8 @@ impl Scene {
 
 /// The books of the exercise's objects before their first events.
 fn make_books(alloc: Global, exercise: &Exercise) -> Result<Vec<Book>, NoMemory>
-    ensures places { IfOk result (λ books. map place_of books.items
-        ≡ map (λ d. first_place (length exercise.now.programs) d.kind) exercise.now.objects) }
+    ensures places { IfOk result (λ books. map object_state_of books.items
+        ≡ map (λ d. first_object_state (length exercise.now.programs) d.kind) exercise.now.objects) }
     ensures fresh { IfOk result (λ books. AreFresh books.items) }
 {
     let threads = exercise.threads();
@@ -135,8 +135,8 @@ fn make_books(alloc: Global, exercise: &Exercise) -> Result<Vec<Book>, NoMemory>
 
 /// The seats of `main` and of the exercise's threads before their first events.
 fn make_seats(alloc: Global, exercise: &Exercise) -> Result<Vec<Seat>, NoMemory>
-    ensures standings { IfOk result (λ seats. map (λ v. v.standing) seats.items
-        ≡ first_standing Phase.Main [] ∷ map (first_standing Phase.NotBegun) exercise.now.programs) }
+    ensures threads { IfOk result (λ seats. map (λ v. v.thread_state) seats.items
+        ≡ first_thread_state Phase.Main [] ∷ map (first_thread_state Phase.NotBegun) exercise.now.programs) }
     ensures numbered { IfOk result (λ seats. AreNumbered seats.items) }
 {
     let mut seats = Vec::new(alloc);

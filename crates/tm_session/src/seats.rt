@@ -1,13 +1,16 @@
 ghost use Rattle.std.specs.Prelude.{◌≡◌, ◌<◌, ◌≤◌, ◌+◌, ◌^◌, if◌then◌else◌, IfOk, true, false, [], length};
+ghost use Rattle.tm_book.specs.Books.{CanEnter};
 ghost use Rattle.tm_text.specs.Exercises.{program_of};
-ghost use Rattle.tm_replay.specs.Joint.{first_standing};
-ghost use Rattle.tm_replay.specs.JointSteps.{MayIn, is_stopped, is_call, is_final, phase_after, phase_by, rest_by};
+ghost use Rattle.tm_text.specs.Programs.{asked_of};
+ghost use Rattle.tm_replay.specs.Ends.{is_more};
+ghost use Rattle.tm_replay.specs.JointStates.{first_thread_state};
+ghost use Rattle.tm_replay.specs.JointSteps.{MayIn, is_call, is_final, phase_after, phase_by, rest_by};
 ghost use Rattle.tm_session.specs.Turns.{KeepsLimit};
-ghost use Rattle.tm_session.specs.Seats.{AsksCalls, GoesOn, IsWithin, seat_of};
-ghost use Rattle.tm_session.specs.Acting.{Acts, CanAct};
+ghost use Rattle.tm_session.specs.Seats.{AsksCalls, GoesOn, IsWithin, seat_of, ticket_of};
+ghost use Rattle.tm_session.specs.Acting.{Acts};
 
-use crate::books::enter;
-use crate::wishes::Wish;
+use crate::book_calls::enter;
+use crate::next_calls::NextCall;
 use std::alloc::Global;
 use std::marker::Model;
 use tm_base::{Ask, Entry, NoMemory, Op, Reply, Ticket};
@@ -40,7 +43,7 @@ impl Model for Seat {
 impl Seat {
     /// The seat of `main`.
     pub fn main(alloc: Global) -> Seat
-        ensures { result ≡ seat_of 0 (first_standing Phase.Main []) }
+        ensures { result ≡ seat_of 0 (first_thread_state Phase.Main []) }
     {
         Seat {
             ticket: Ticket::make(0),
@@ -54,7 +57,7 @@ impl Seat {
     pub fn make(alloc: Global, exercise: &Exercise, thread: u32) -> Result<Seat, NoMemory>
         requires program { 1 ≤ thread }
         requires known { thread ≤ length exercise.now.programs }
-        ensures { IfOk result (λ seat. seat ≡ seat_of thread (first_standing Phase.NotBegun (program_of exercise.now thread))) }
+        ensures { IfOk result (λ seat. seat ≡ seat_of thread (first_thread_state Phase.NotBegun (program_of exercise.now thread))) }
     {
         Ok(Seat {
             ticket: Ticket::make(thread),
@@ -66,45 +69,52 @@ impl Seat {
 
     /// The thread's phase.
     pub fn phase(&self) -> Phase
-        ensures { result ≡ self.now.standing.phase }
+        ensures { result ≡ self.now.thread_state.phase }
     {
         self.phase
     }
 
-    /// The thread's last final reply.
-    pub fn last(&self) -> Option<Reply>
-        ensures { result ≡ self.now.standing.rest.last }
+    /// How many calls the thread has made.
+    pub fn made(&self) -> u32
+        ensures { result ≡ self.now.thread_state.made }
     {
-        self.script.last()
+        self.made
+    }
+
+    /// Whether the thread's program asks one more call.
+    pub fn asks_more(&self) -> bool
+        ensures { result ≡ is_more (asked_of self.now.thread_state.rest) }
+    {
+        matches!(self.script.asked(), Some(Ask::Call { .. }))
     }
 
     /// What the thread does next, whose own object this is.
-    pub fn wish(&self, own: u32, limit: u32) -> Wish
-        requires goes_on { GoesOn self.now.standing.phase }
-        requires asks { AsksCalls self.now.standing.rest.left }
-        ensures may { MayIn own self.now.standing.phase self.now.standing.rest result.object result.op }
-        ensures limit { KeepsLimit limit self.now.standing result.op }
+    pub fn next_call(&self, own: u32, limit: u32) -> NextCall
+        requires goes_on { GoesOn self.now.thread_state.phase }
+        requires asks { AsksCalls self.now.thread_state.rest.left }
+        ensures may { MayIn own self.now.thread_state.phase self.now.thread_state.rest result.object result.op }
+        ensures limit { KeepsLimit limit self.now.thread_state result.op }
     {
         match self.phase {
-            Phase::NotBegun => Wish {
+            Phase::NotBegun => NextCall {
                 object: own,
                 op: Op::Begin,
             },
-            Phase::Waits(object) => Wish {
+            Phase::Waits(object) => NextCall {
                 object,
                 op: Op::Resume,
             },
-            Phase::Free => free_wish(&self.script, own, self.made < limit),
+            Phase::Free => free_call(&self.script, own, self.made < limit),
             Phase::Main | Phase::Ended { .. } => unreachable!(),
         }
     }
 
-    /// Makes the thread's event in the book. Only want of memory refuses it.
+    /// Makes the thread's event in the book. Only running out of memory refuses it.
     pub fn act(&mut self, book: &mut Book, op: Op) -> Result<Entry, NoMemory>
-        requires may { CanAct self.old.standing.phase self.old.thread book.old.object book.old.machine op }
-        requires next { self.old.standing.next < 2 ^ 62 }
-        requires clock { self.old.standing.stamp ≤ 2 ^ 62 }
-        requires made { self.old.standing.made < 2 ^ 31 }
+        requires may { CanEnter book.old (ticket_of self.old) op }
+        requires next { self.old.thread_state.next < 2 ^ 62 }
+        requires clock { self.old.thread_state.stamp ≤ 2 ^ 62 }
+        requires made { self.old.thread_state.made < 2 ^ 31 }
         ensures { IfOk result (λ e. Acts self.old book.old op e self.new book.new) }
     {
         let entry = enter(book, &mut self.ticket, op)?;
@@ -116,24 +126,18 @@ impl Seat {
 }
 
 /// What a free thread does next, which may make a call or not by its limit.
-fn free_wish(script: &Script, own: u32, calls: bool) -> Wish
+fn free_call(script: &Script, own: u32, calls: bool) -> NextCall
     requires { AsksCalls script.now.left }
     ensures may { MayIn own Phase.Free script.now result.object result.op }
     ensures limit { IsWithin calls script.now.last result.op }
 {
-    if is_stopped(script.last()) {
-        return Wish {
-            object: own,
-            op: Op::End { cut: true },
-        };
-    }
     match script.asked() {
-        Ask::Over => Wish {
+        Some(Ask::Over) => NextCall {
             object: own,
             op: Op::End { cut: false },
         },
-        Ask::Call { object, op } if calls => Wish { object, op },
-        Ask::Call { .. } => Wish {
+        Some(Ask::Call { object, op }) if calls => NextCall { object, op },
+        _ => NextCall {
             object: own,
             op: Op::End { cut: true },
         },
@@ -155,13 +159,6 @@ fn go_on(script: &mut Script, entry: &Entry)
     if is_final(entry) {
         script.answer(entry.reply);
     }
-}
-
-/// Whether the last final reply is `stopped`.
-pub fn is_stopped(last: Option<Reply>) -> bool
-    ensures { result ≡ is_stopped last }
-{
-    matches!(last, Some(Reply::Stopped))
 }
 
 /// Whether the operation is what a program asks: none of `begin`, `end`, `resume` and `stop`.

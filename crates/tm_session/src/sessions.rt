@@ -1,7 +1,7 @@
 ghost use Rattle.std.specs.Prelude.{◌≡◌, ◌≤◌, ◌<◌, ◌++◌, ℕ, List, Option, IfOk, OnOk, OnErr, false, length};
 ghost use Rattle.tm_text.specs.Exercises.{IsWellFormed};
 ghost use Rattle.tm_timeline.specs.Rows.{last_line_of};
-ghost use Rattle.tm_replay.specs.Sound.{IsSoundJoint};
+ghost use Rattle.tm_replay.specs.SoundStates.{IsSoundJoint};
 ghost use Rattle.tm_replay.specs.Ends.{end_of, named_of};
 ghost use Rattle.tm_replay.specs.Bars.{bars_of, is_over};
 ghost use Rattle.tm_replay.specs.Work.{work};
@@ -79,10 +79,11 @@ impl Session {
         alloc: Global,
         exercise: &Exercise,
         sink: &mut K,
+        rules: Rules,
     ) -> Result<Finished, NoMemory>
         requires sound { IsSoundJoint exercise.now (joint_of self.run.scene) }
-        ensures end { IfOk result (λ f. f.end ≡ end_of (joint_of self.run.scene)) }
-        ensures cut { IfOk result (λ f. f.cut ≡ named_of (joint_of self.run.scene)) }
+        ensures end { IfOk result (λ f. f.end ≡ end_of rules.limit (joint_of self.run.scene)) }
+        ensures cut { IfOk result (λ f. f.cut ≡ named_of rules.limit (joint_of self.run.scene)) }
         ensures shown { IfOk result (λ f. f.shown ≡ self.shown.items) }
         ensures books { IfOk result (λ f. f.books ≡ self.run.scene.books.items) }
         ensures sent { IfOk result (λ f. (before : ℕ) (old : Option (List ℕ)) (rows : List ℕ)
@@ -92,7 +93,7 @@ impl Session {
         ensures kept { OnErr result (K.written sink.new ≡ K.written sink.old) }
         ensures never_falls { K.fault_count sink.old ≤ K.fault_count sink.new }
     {
-        let Ending { end, named } = Ending::of(alloc, exercise, &self.run.scene)?;
+        let Ending { end, named } = Ending::of(alloc, exercise, &self.run.scene, rules.limit)?;
         let count = self.shown.len() as u64;
         let line = last_line(alloc, exercise, end, count, named.as_slice())?;
         let write_fault = send(sink, self.failed, line.as_slice());

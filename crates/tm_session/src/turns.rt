@@ -3,13 +3,13 @@ ghost use Rattle.std.specs.List.{list_all};
 ghost use Rattle.tm_text.specs.Exercises.{IsWellFormed};
 ghost use Rattle.tm_replay.specs.Bars.{bars_of, is_over, is_runnable, is_stuck};
 ghost use Rattle.tm_session.specs.Scenes.{joint_of, HasKept};
-ghost use Rattle.tm_session.specs.Running.{turn_of, IsRunning, HaltsAt, MovesOn, Stops};
-ghost use Rattle.tm_session.specs.Turns.{Goes, due_stops, first_turn};
+ghost use Rattle.tm_session.specs.Running.{run_state_of, IsRunning, HaltsAt, MovesOn, Stops};
+ghost use Rattle.tm_session.specs.Turns.{Goes, due_stops, first_run_state};
 
 use crate::choices::{choose, draw_after, is_runnable};
+use crate::next_calls::NextCall;
 use crate::rules::Rules;
 use crate::scenes::Scene;
-use crate::wishes::Wish;
 use std::alloc::Global;
 use std::collections::VecDeque;
 use tm_base::{Bar, Entry, NoMemory, Op};
@@ -30,7 +30,7 @@ pub struct Run {
 impl Run {
     /// Nothing has happened yet.
     pub fn make(alloc: Global, exercise: &Exercise, rules: Rules) -> Result<Run, NoMemory>
-        ensures start { IfOk result (λ run. turn_of run ≡ first_turn exercise.now rules) }
+        ensures start { IfOk result (λ run. run_state_of run ≡ first_run_state exercise.now rules) }
         ensures kept { IfOk result (λ run. HasKept [] run.scene) }
     {
         Ok(Run {
@@ -59,7 +59,7 @@ impl Run {
         requires running { IsRunning exercise.now self.old }
         requires bars { bars.now ≡ bars_of (joint_of self.old.scene) }
         requires going { is_over bars.now ≡ false }
-        ensures goes { IfOk result (λ e. Goes exercise.now rules (turn_of self.old) e (turn_of self.new)) }
+        ensures goes { IfOk result (λ e. Goes exercise.now rules (run_state_of self.old) e (run_state_of self.new)) }
         ensures keeps { (es : List Entry) → HasKept es self.old.scene → IfOk result (λ e. HasKept (es ++ e ∷ []) self.new.scene) }
     {
         match self.due(alloc, exercise, bars)? {
@@ -78,8 +78,8 @@ impl Run {
         requires running { IsRunning exercise.now self.old }
         requires bars { bars.now ≡ bars_of (joint_of self.old.scene) }
         ensures due { IfOk result (λ next. MatchOption next
-            ((due_stops (turn_of self.old) ≡ []) × (self.new.stops.items ≡ []))
-            (λ object. due_stops (turn_of self.old) ≡ object ∷ self.new.stops.items)) }
+            ((due_stops (run_state_of self.old) ≡ []) × (self.new.stops.items ≡ []))
+            (λ object. due_stops (run_state_of self.old) ≡ object ∷ self.new.stops.items)) }
         ensures scene { self.new.scene ≡ self.old.scene }
         ensures last { self.new.last ≡ self.old.last }
         ensures draw { self.new.draw ≡ self.old.draw }
@@ -92,7 +92,7 @@ impl Run {
     fn refill(&mut self, alloc: Global, exercise: &Exercise, bars: &[Bar]) -> Result<(), NoMemory>
         requires running { IsRunning exercise.now self.old }
         requires bars { bars.now ≡ bars_of (joint_of self.old.scene) }
-        ensures due { OnOk result (self.new.stops.items ≡ due_stops (turn_of self.old)) }
+        ensures due { OnOk result (self.new.stops.items ≡ due_stops (run_state_of self.old)) }
         ensures scene { self.new.scene ≡ self.old.scene }
         ensures last { self.new.last ≡ self.old.last }
         ensures draw { self.new.draw ≡ self.old.draw }
@@ -117,7 +117,7 @@ impl Run {
         let _exercise = exercise;
         self.scene.perform(
             0,
-            Wish {
+            NextCall {
                 object,
                 op: Op::Stop,
             },
@@ -144,10 +144,10 @@ impl Run {
             unreachable!()
         };
         let own = exercise.own(thread);
-        let wish = self.scene.seats[thread as usize].wish(own, rules.limit);
+        let next_call = self.scene.seats[thread as usize].next_call(own, rules.limit);
         self.last = thread;
         self.draw = draw;
-        self.scene.perform(thread, wish)
+        self.scene.perform(thread, next_call)
     }
 }
 

@@ -1,7 +1,7 @@
 use Rattle.std.proofs.Common.{◌≡◌, ◌-◌, ◌<◌, ◌≤◌, ⊎_elim, arith, sym, ap, ◌∙◌}
 use Rattle.std.proofs.lemmas.Bool.{cases_lt}
 use Rattle.tm_session.specs.Choices.{runs_at}
-use Rattle.tm_session.proofs.Choosing.{find-range, find-range_none}
+use Rattle.tm_session.proofs.ChoicesLemmas.{find-range, find-range_none}
 use Rattle.tm_session.proofs.choices.first_runnable.Goals as goal
 
 pub returns-then-runs : goal.returns-then-runs

@@ -1,5 +1,5 @@
 use Rattle.std.proofs.Common.{sym, ◌∙◌}
-use Rattle.tm_session.proofs.Choosing.{next_thread-first, next_thread-second}
+use Rattle.tm_session.proofs.ChoicesLemmas.{next_thread-first, next_thread-second}
 use Rattle.tm_session.proofs.choices.next_runnable.Goals as goal
 
 pub returns-in-Some : goal.returns-in-Some

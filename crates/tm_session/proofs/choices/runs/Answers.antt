@@ -1,5 +1,5 @@
 use Rattle.std.proofs.Common.{sym, ◌∙◌}
-use Rattle.tm_session.proofs.Choosing.{runs_at-index}
+use Rattle.tm_session.proofs.ChoicesLemmas.{runs_at-index}
 use Rattle.tm_session.proofs.choices.runs.Goals as goal
 
 pub returns : goal.returns

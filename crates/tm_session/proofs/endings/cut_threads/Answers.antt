@@ -4,7 +4,7 @@ use Rattle.std.proofs.lemmas.Option.{slice_get_read}
 use Rattle.tm_timeline.specs.Rows.{IsProgramThread}
 use Rattle.tm_replay.specs.Ends.{threads_where}
 use Rattle.tm_session.specs.Scenes.{joint_of}
-use Rattle.tm_session.specs.Cuts.{test_of}
+use Rattle.tm_session.specs.CutThreads.{test_of}
 use Rattle.tm_session.proofs.Growing.{filter-range_more}
 use Rattle.tm_session.proofs.Scenery.{count-seats, seat-at}
 use Rattle.tm_session.proofs.Ending.{programs}
@@ -14,7 +14,7 @@ use Rattle.tm_session.proofs.endings.cut_threads.Goals.{After-loop-thread, then-
 pub loop-thread-preserved : goal.loop-thread-preserved
 loop-thread-preserved c =
     let scene = c.args.scene.now in
-    let items = (joint_of scene).standings in
+    let items = (joint_of scene).threads in
     let t = c.loop-thread.thread in
     let p = λ (n : ℕ). test_of c.args.cut (slice_get items n) in
     let last : 1 + (t - 1) ≡ t = omega (arith, c.loop-thread.auto.thread) in
@@ -36,9 +36,9 @@ whole : (c : After-loop-thread) → c.loop-thread.threads.items ≡ threads_wher
 whole c =
     let j = joint_of c.args.scene.now in
     let high : c.loop-thread.thread ≤ c.threads-thread-end.result + 1 = c.loop-thread.auto.thread-end (omega arith) in
-    let count : c.loop-thread.thread - 1 ≡ length j.standings - 1 =
+    let count : c.loop-thread.thread - 1 ≡ length j.threads - 1 =
     omega (arith, c.loop-thread-test.false, high, c.threads-thread-end.ensures.value, c.requires.thread_count) in
-    c.loop-thread.invariant ∙ ap (λ (n : ℕ). filter (λ t. test_of c.args.cut (slice_get j.standings t)) (range_with_len 1 n)) count
+    c.loop-thread.invariant ∙ ap (λ (n : ℕ). filter (λ t. test_of c.args.cut (slice_get j.threads t)) (range_with_len 1 n)) count
 
 pub returns-clause-threads : goal.returns-clause-threads
 returns-clause-threads c = whole (goal.at.returns-clause-threads c).After-loop-thread

@@ -5,12 +5,12 @@ use Rattle.tm_session.specs.Turns.{rules_of}
 use Rattle.tm_session.specs.Sessions.{IsUnderWay, HasSent}
 use Rattle.tm_session.proofs.runs.alone.Given as goal
 
-abbrev pub invariant-loop-rules : goal.invariant-loop-rules
-invariant-loop-rules g l = record {
+abbrev pub invariant-loop-session : goal.invariant-loop-session
+invariant-loop-session g l = record {
   under_way : IsUnderWay l.exercise (rules_of l.schedule l.limit) l.session;
   sent : HasSent l.exercise l.session (g.K.Sink.fault_count l.initial.sink) (g.K.Sink.fault_count l.sink) (g.K.Sink.written l.initial.sink) (g.K.Sink.written l.sink);
   rises : g.K.Sink.fault_count l.initial.sink ≤ g.K.Sink.fault_count l.sink;
 }
 
-abbrev pub decreases-loop-rules : goal.decreases-loop-rules
-decreases-loop-rules g l = work (joint_of l.session.run.scene)
+abbrev pub decreases-loop-session : goal.decreases-loop-session
+decreases-loop-session g l = work (joint_of l.session.run.scene)

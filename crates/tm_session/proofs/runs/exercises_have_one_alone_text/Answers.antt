@@ -1,6 +1,10 @@
--- The law, page by page.
-use Rattle.tm_session.proofs.OneText.{text-one}
+-- The law, row by row.
+use Rattle.tm_session.proofs.DeterministicText.{text-one}
+use Rattle.tm_session.proofs.WholeTexts.{has-alone_text}
 use Rattle.tm_session.proofs.runs.exercises_have_one_alone_text.Goals as goal
 
-pub returns : goal.returns
-returns c = text-one
+pub returns-clause-exists : goal.returns-clause-exists
+returns-clause-exists c = has-alone_text
+
+pub returns-clause-unique : goal.returns-clause-unique
+returns-clause-unique c = text-one

@@ -7,7 +7,7 @@ use Rattle.tm_session.proofs.Showing.{can_show, bar_of-seat}
 use Rattle.tm_session.proofs.scenes.Scene.bar.Goals as goal
 use Rattle.tm_session.proofs.scenes.Scene.bar.Goals.{After-index}
 
-seat : (c : After-index) → slice_get (joint_of c.args.self.now).standings c.args.thread ≡ Some c.index.result.now.standing
+seat : (c : After-index) → slice_get (joint_of c.args.self.now).threads c.args.thread ≡ Some c.index.result.now.thread_state
 seat c =
     let scene = c.args.self.now in
     seat-at scene c.args.thread c.index.result.now
@@ -20,10 +20,10 @@ pub bar_in-requires : goal.bar_in-requires
 bar_in-requires c =
     let j = joint_of c.args.self.now in
     subst (CanShow j c.args.thread) (sym c.phase.ensures)
-    (can_show c.args.exercise.now j c.args.thread c.index.result.now.standing c.requires.sound c.requires.program (seat (goal.at.bar_in-requires c).After-index))
+    (can_show c.args.exercise.now j c.args.thread c.index.result.now.thread_state c.requires.sound c.requires.program (seat (goal.at.bar_in-requires c).After-index))
 
 pub returns : goal.returns
 returns c =
     let j = joint_of c.args.self.now in
     c.bar_in.ensures ∙ ap (bar_in j c.args.thread) c.phase.ensures
-    ∙ sym (bar_of-seat j c.args.thread c.index.result.now.standing (seat (goal.at.returns c).After-index))
+    ∙ sym (bar_of-seat j c.args.thread c.index.result.now.thread_state (seat (goal.at.returns c).After-index))

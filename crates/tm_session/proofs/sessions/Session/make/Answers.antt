@@ -1,54 +1,54 @@
 use Rattle.std.proofs.Common.{◌≡◌, ◌≤◌, ℕ, List, [], length, refl, sym, ap, subst, arith}
 use Rattle.tm_text.specs.Exercises.{IsWellFormed}
-use Rattle.tm_replay.specs.Joint.{Joint, start}
-use Rattle.tm_replay.specs.Sound.{IsSoundJoint}
+use Rattle.tm_replay.specs.JointStates.{JointState, start}
+use Rattle.tm_replay.specs.SoundStates.{IsSoundJoint}
 use Rattle.tm_replay.specs.Work.{IsCounted, work}
-use Rattle.tm_replay.proofs.Starts.{IsSoundJoint-start, IsCounted-start, work-start}
+use Rattle.tm_replay.proofs.JointStartLemmas.{IsSoundJoint-start, IsCounted-start, work-start}
 use Rattle.tm_base.specs.declared.events.Entry.{Entry}
-use Rattle.tm_outside.proofs.Appending.{Appends-none}
+use Rattle.tm_outside.proofs.AppendingLemmas.{Appends-none}
 use Rattle.tm_session.specs.Scenes.{joint_of}
-use Rattle.tm_session.specs.Turns.{Turn, first_turn, BeginsAlone}
-use Rattle.tm_session.specs.Running.{turn_of, AreWaited}
-use Rattle.tm_session.specs.Pages.{first_page, AreRows}
+use Rattle.tm_session.specs.Turns.{RunState, first_run_state, BeginsAlone}
+use Rattle.tm_session.specs.Running.{run_state_of, AreWaited}
+use Rattle.tm_session.specs.Transcripts.{first_transcript, AreRows}
 use Rattle.tm_session.proofs.sessions.Session.make.Goals as goal
 
 pub bars-requires : goal.bars-requires
 bars-requires c =
-    subst (λ (p : Turn). IsSoundJoint c.args.exercise.now p.joint) (sym c.in_ok-run.ensures.start) (IsSoundJoint-start c.args.exercise.now c.threads-threads.ensures.well_formed)
+    subst (λ (p : RunState). IsSoundJoint c.args.exercise.now p.joint) (sym c.in_ok-run.ensures.start) (IsSoundJoint-start c.args.exercise.now c.threads-threads.ensures.well_formed)
 
 pub returns-clause-under_way : goal.returns-clause-under_way
 returns-clause-under_way c =
     let x = c.args.exercise.now in
     let formed : IsWellFormed x = c.threads-threads.ensures.well_formed in
     let run = c.in_ok-run.run' in
-    let begun : turn_of run ≡ first_turn x c.args.rules = c.in_ok-run.ensures.start in
+    let begun : run_state_of run ≡ first_run_state x c.args.rules = c.in_ok-run.ensures.start in
     let j = joint_of run.scene in
-    let joint : j ≡ start x = ap (λ (p : Turn). p.joint) begun in
+    let joint : j ≡ start x = ap (λ (p : RunState). p.joint) begun in
     let none : c.new.result.items ≡ [] = c.new.ensures.items in
-    let little : work j ≤ 1000000 = subst (λ (k : Joint). work k ≤ 1000000) (sym joint) (work-start x formed) in
+    let little : work j ≤ 1000000 = subst (λ (k : JointState). work k ≤ 1000000) (sym joint) (work-start x formed) in
     let len : length c.new.result.items ≡ 0 = ap length none in
-    let last : run.last ≡ 0 = ap (λ (p : Turn). p.last) begun in
+    let last : run.last ≡ 0 = ap (λ (p : RunState). p.last) begun in
     record {
       formed = formed;
       sound = subst (IsSoundJoint x) (sym joint) (IsSoundJoint-start x formed);
       last = omega (arith, last);
-      waited = subst (AreWaited j) (sym (ap (λ (p : Turn). p.stops) begun)) tt;
+      waited = subst (AreWaited j) (sym (ap (λ (p : RunState). p.stops) begun)) tt;
       counted = subst (λ (n : ℕ). IsCounted n j) (sym len) (subst (IsCounted 0) (sym joint) (IsCounted-start x));
       bounded = omega (arith, len, little);
       bars = c.in_ok-bars.ensures;
-      begins = subst (λ (es : List Entry). BeginsAlone x c.args.rules es (turn_of run)) (sym none) begun;
+      begins = subst (λ (es : List Entry). BeginsAlone x c.args.rules es (run_state_of run)) (sym none) begun;
       kept = rw none c.in_ok-run.ensures.kept;
     }
 
 pub returns-clause-sent : goal.returns-clause-sent
 returns-clause-sent c count bytes =
     let x = c.args.exercise.now in
-    let begun : turn_of c.in_ok-run.run' ≡ first_turn x c.args.rules = c.in_ok-run.ensures.start in
+    let begun : run_state_of c.in_ok-run.run' ≡ first_run_state x c.args.rules = c.in_ok-run.ensures.start in
     let none : c.new.result.items ≡ [] = c.new.ensures.items in
     record {
-      page = first_page x;
-      rows = subst (λ (es : List Entry). AreRows x es (first_page x)) (sym none) refl;
-      same = sym (ap (λ (p : Turn). p.joint) begun);
+      transcript = first_transcript x;
+      rows = subst (λ (es : List Entry). AreRows x es (first_transcript x)) (sym none) refl;
+      same = sym (ap (λ (p : RunState). p.joint) begun);
       count = sym (ap length none);
       sent = (refl, Appends-none bytes bytes refl);
     }

@@ -1,12 +1,12 @@
 use Rattle.std.proofs.Common.{◌≡◌, ◌∷◌, List, ℕ, true, slice_get, sym, ap, ◌∙◌, subst}
 use Rattle.std.proofs.lemmas.Result.{IfOk-weaker}
 use Rattle.tm_base.specs.declared.events.Entry.{Entry}
-use Rattle.tm_replay.specs.Joint.{Joint}
-use Rattle.tm_replay.specs.Sound.{IsSoundJoint}
+use Rattle.tm_replay.specs.JointStates.{JointState}
+use Rattle.tm_replay.specs.SoundStates.{IsSoundJoint}
 use Rattle.tm_replay.specs.Bars.{is_stuck, has_waiter}
 use Rattle.tm_session.specs.Scenes.{joint_of, IsEarly}
 use Rattle.tm_session.specs.Turns.{Goes, GoesBy}
-use Rattle.tm_session.specs.Running.{turn_of, AreWaited, MovesOn, Stops}
+use Rattle.tm_session.specs.Running.{run_state_of, AreWaited, MovesOn, Stops}
 use Rattle.tm_session.proofs.Stopping.{due-waited, none-due}
 use Rattle.tm_session.proofs.Turning.{moves, halts}
 use Rattle.tm_session.proofs.turns.Run.go.Goals as goal
@@ -23,7 +23,7 @@ halt-requires c =
       formed = c.requires.running.formed;
       sound = subst (IsSoundJoint x) (sym same) c.requires.running.sound;
       early = subst IsEarly (sym same) c.requires.running.early;
-      waited = subst (λ (j : Joint). has_waiter (slice_get j.objects c.in-Some.object) ≡ true) (sym same) waited.0;
+      waited = subst (λ (j : JointState). has_waiter (slice_get j.objects c.in-Some.object) ≡ true) (sym same) waited.0;
       kept = rw c.in_ok-object.ensures.scene c.requires.running.kept;
     }
 
@@ -39,10 +39,10 @@ returns-in-None-clause-goes c =
     let old = joint_of c.args.self.now.scene in
     let due = rw c.in-None.is at c.in_ok-object.ensures.due in
     let P : Entry → Type 0 = λ e. MovesOn x c.args.rules c.due.new.self e c.move_on.new.self in
-    let Q : Entry → Type 0 = λ e. Goes x c.args.rules (turn_of c.args.self.now) e (turn_of c.move_on.new.self) in
+    let Q : Entry → Type 0 = λ e. Goes x c.args.rules (run_state_of c.args.self.now) e (run_state_of c.move_on.new.self) in
     IfOk-weaker c.move_on.result P Q
-    (λ e m. subst (λ (stops : List ℕ). GoesBy x c.args.rules (turn_of c.args.self.now) stops e (turn_of c.move_on.new.self)) (sym due.0)
-    (moves x c.args.rules (turn_of c.args.self.now) c.due.new.self c.move_on.new.self e (ap joint_of c.in_ok-object.ensures.scene) c.in_ok-object.ensures.last c.in_ok-object.ensures.draw due.1 m))
+    (λ e m. subst (λ (stops : List ℕ). GoesBy x c.args.rules (run_state_of c.args.self.now) stops e (run_state_of c.move_on.new.self)) (sym due.0)
+    (moves x c.args.rules (run_state_of c.args.self.now) c.due.new.self c.move_on.new.self e (ap joint_of c.in_ok-object.ensures.scene) c.in_ok-object.ensures.last c.in_ok-object.ensures.draw due.1 m))
     c.move_on.ensures.moves
 
 pub returns-in-None-clause-keeps : goal.returns-in-None-clause-keeps
@@ -56,8 +56,8 @@ returns-in-Some-clause-goes c =
     let x = c.args.exercise.now in
     let due = rw c.in-Some.is at c.in_ok-object.ensures.due in
     let P : Entry → Type 0 = λ e. Stops x c.due.new.self c.in-Some.object e c.halt.new.self in
-    let Q : Entry → Type 0 = λ e. Goes x c.args.rules (turn_of c.args.self.now) e (turn_of c.halt.new.self) in
+    let Q : Entry → Type 0 = λ e. Goes x c.args.rules (run_state_of c.args.self.now) e (run_state_of c.halt.new.self) in
     IfOk-weaker c.halt.result P Q
-    (λ e s. subst (λ (stops : List ℕ). GoesBy x c.args.rules (turn_of c.args.self.now) stops e (turn_of c.halt.new.self)) (sym due)
-    (halts x (turn_of c.args.self.now) c.due.new.self c.halt.new.self c.in-Some.object e (ap joint_of c.in_ok-object.ensures.scene) c.in_ok-object.ensures.last c.in_ok-object.ensures.draw s))
+    (λ e s. subst (λ (stops : List ℕ). GoesBy x c.args.rules (run_state_of c.args.self.now) stops e (run_state_of c.halt.new.self)) (sym due)
+    (halts x (run_state_of c.args.self.now) c.due.new.self c.halt.new.self c.in-Some.object e (ap joint_of c.in_ok-object.ensures.scene) c.in_ok-object.ensures.last c.in_ok-object.ensures.draw s))
     c.halt.ensures.stops

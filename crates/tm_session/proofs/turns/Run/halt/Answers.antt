@@ -3,7 +3,7 @@ use Rattle.std.proofs.lemmas.Result.{IfOk-weaker}
 use Rattle.tm_base.specs.declared.operations.Op.TheVariants as op
 use Rattle.tm_base.specs.declared.events.Entry.{Entry}
 use Rattle.tm_session.specs.Scenes.{joint_of, Performs}
-use Rattle.tm_session.proofs.Moving.{can_halt, halted-step}
+use Rattle.tm_session.proofs.MoveOnLemmas.{can_halt, halted-step}
 use Rattle.tm_session.proofs.turns.Run.halt.Goals as goal
 
 pub perform-requires-clause-can : goal.perform-requires-clause-can

@@ -2,21 +2,21 @@ use Rattle.std.proofs.Common.{◌≡◌, ◌≤◌, ◌<◌, ℕ, List, Some, le
 use Rattle.std.proofs.lemmas.Option.{slice_get_read}
 use Rattle.std.proofs.lemmas.Result.{IfOk-weaker}
 use Rattle.tm_base.specs.declared.events.Entry.{Entry}
-use Rattle.tm_base.specs.declared.outcomes.Bar.{Bar}
+use Rattle.tm_base.specs.declared.bars.Bar.{Bar}
 use Rattle.tm_text.specs.Exercises.{ExerciseView}
-use Rattle.tm_replay.specs.Joint.{Joint}
-use Rattle.tm_replay.specs.Sound.{IsSoundJoint}
+use Rattle.tm_replay.specs.JointStates.{JointState}
+use Rattle.tm_replay.specs.SoundStates.{IsSoundJoint}
 use Rattle.tm_replay.specs.JointSteps.{MayIn}
 use Rattle.tm_replay.specs.Bars.{bars_of}
 use Rattle.tm_session.specs.Scenes.{joint_of, Performs}
 use Rattle.tm_session.specs.Choices.{chosen_thread}
-use Rattle.tm_session.proofs.Choosing.{bars-count, some-chosen}
+use Rattle.tm_session.proofs.ChoicesLemmas.{bars-count, some-chosen}
 use Rattle.tm_session.proofs.Scenery.{count-seats, seat-at}
-use Rattle.tm_session.proofs.Moving.{IsChosen, chosen, chosen-goes, chosen-asks, chosen-performs, chosen-step}
+use Rattle.tm_session.proofs.MoveOnLemmas.{IsChosen, chosen, chosen-goes, chosen-asks, chosen-performs, chosen-step}
 use Rattle.tm_session.proofs.turns.Run.move_on.Goals as goal
 use Rattle.tm_session.proofs.turns.Run.move_on.Goals.{In-Some, After-index}
 
-count : (x : ExerciseView) (j : Joint) (bars : List Bar) → IsSoundJoint x j → bars ≡ bars_of j → length bars ≡ length x.programs
+count : (x : ExerciseView) (j : JointState) (bars : List Bar) → IsSoundJoint x j → bars ≡ bars_of j → length bars ≡ length x.programs
 count x j bars sound same =
     let len : length bars ≡ length (bars_of j) = ap length same in
     omega (arith, len, bars-count j, sound.thread_count)
@@ -30,7 +30,7 @@ is_chosen c =
     chosen c.args.exercise.now j c.requires.running.formed c.requires.running.sound c.args.rules.schedule c.args.self.now.last c.draw_after-draw.result c.in-Some.thread
     (ap (λ bars. chosen_thread c.args.rules.schedule bars c.args.self.now.last c.draw_after-draw.result) (sym c.requires.bars) ∙ chose c)
 
-seat_of : (c : After-index) → c.in-Some.thread < length (joint_of c.args.self.now.scene).standings → slice_get (joint_of c.args.self.now.scene).standings c.in-Some.thread ≡ Some c.index.result.now.standing
+seat_of : (c : After-index) → c.in-Some.thread < length (joint_of c.args.self.now.scene).threads → slice_get (joint_of c.args.self.now.scene).threads c.in-Some.thread ≡ Some c.index.result.now.thread_state
 seat_of c within =
     let scene = c.args.self.now.scene in
     seat-at scene c.in-Some.thread c.index.result.now
@@ -59,24 +59,24 @@ own-own-requires-clause-known c = (is_chosen (goal.at.own-own-requires-clause-kn
 pub index-requires : goal.index-requires
 index-requires c = omega (arith, (is_chosen (goal.at.index-requires c).In-Some).within, count-seats c.args.self.now.scene, c.args.self.now.scene.seats.ok.0)
 
-pub wish-wish-requires-clause-goes_on : goal.wish-wish-requires-clause-goes_on
-wish-wish-requires-clause-goes_on c =
-    let d = (goal.at.wish-wish-requires-clause-goes_on c).After-index in
-    chosen-goes c.args.exercise.now (joint_of c.args.self.now.scene) c.requires.running.formed c.requires.running.sound c.in-Some.thread c.index.result.now.standing
-    (is_chosen (goal.at.wish-wish-requires-clause-goes_on c).In-Some) (seat_of d (is_chosen (goal.at.wish-wish-requires-clause-goes_on c).In-Some).within)
+pub next_call-next_call-requires-clause-goes_on : goal.next_call-next_call-requires-clause-goes_on
+next_call-next_call-requires-clause-goes_on c =
+    let d = (goal.at.next_call-next_call-requires-clause-goes_on c).After-index in
+    chosen-goes c.args.exercise.now (joint_of c.args.self.now.scene) c.requires.running.formed c.requires.running.sound c.in-Some.thread c.index.result.now.thread_state
+    (is_chosen (goal.at.next_call-next_call-requires-clause-goes_on c).In-Some) (seat_of d (is_chosen (goal.at.next_call-next_call-requires-clause-goes_on c).In-Some).within)
 
-pub wish-wish-requires-clause-asks : goal.wish-wish-requires-clause-asks
-wish-wish-requires-clause-asks c =
-    let d = (goal.at.wish-wish-requires-clause-asks c).After-index in
-    chosen-asks c.args.exercise.now (joint_of c.args.self.now.scene) c.requires.running.formed c.requires.running.sound c.in-Some.thread c.index.result.now.standing
-    (is_chosen (goal.at.wish-wish-requires-clause-asks c).In-Some) (seat_of d (is_chosen (goal.at.wish-wish-requires-clause-asks c).In-Some).within)
+pub next_call-next_call-requires-clause-asks : goal.next_call-next_call-requires-clause-asks
+next_call-next_call-requires-clause-asks c =
+    let d = (goal.at.next_call-next_call-requires-clause-asks c).After-index in
+    chosen-asks c.args.exercise.now (joint_of c.args.self.now.scene) c.requires.running.formed c.requires.running.sound c.in-Some.thread c.index.result.now.thread_state
+    (is_chosen (goal.at.next_call-next_call-requires-clause-asks c).In-Some) (seat_of d (is_chosen (goal.at.next_call-next_call-requires-clause-asks c).In-Some).within)
 
 pub perform-requires-clause-can : goal.perform-requires-clause-can
 perform-requires-clause-can c =
     let d = (goal.at.perform-requires-clause-can c).After-index in
-    chosen-performs c.args.exercise.now (joint_of c.args.self.now.scene) c.requires.running.formed c.requires.running.sound c.in-Some.thread c.index.result.now.standing
-    (is_chosen (goal.at.perform-requires-clause-can c).In-Some) (seat_of d (is_chosen (goal.at.perform-requires-clause-can c).In-Some).within) c.wish-wish.result
-    (subst (λ (own : ℕ). MayIn own c.index.result.now.standing.phase c.index.result.now.standing.rest c.wish-wish.result.object c.wish-wish.result.op) c.own-own.ensures c.wish-wish.ensures.may)
+    chosen-performs c.args.exercise.now (joint_of c.args.self.now.scene) c.requires.running.formed c.requires.running.sound c.in-Some.thread c.index.result.now.thread_state
+    (is_chosen (goal.at.perform-requires-clause-can c).In-Some) (seat_of d (is_chosen (goal.at.perform-requires-clause-can c).In-Some).within) c.next_call-next_call.result
+    (subst (λ (own : ℕ). MayIn own c.index.result.now.thread_state.phase c.index.result.now.thread_state.rest c.next_call-next_call.result.object c.next_call-next_call.result.op) c.own-own.ensures c.next_call-next_call.ensures.may)
     c.requires.running.early
 
 pub returns-clause-moves : goal.returns-clause-moves
@@ -85,12 +85,12 @@ returns-clause-moves c =
     let j = joint_of c.args.self.now.scene in
     let d = (goal.at.returns-clause-moves c).After-index in
     let one = (goal.at.returns-clause-moves c).In-Some in
-    let P : Entry → Type 0 = λ e. Performs j c.in-Some.thread c.wish-wish.result e (joint_of c.perform.new.self) in
-    let may = subst (λ (own : ℕ). MayIn own c.index.result.now.standing.phase c.index.result.now.standing.rest c.wish-wish.result.object c.wish-wish.result.op) c.own-own.ensures c.wish-wish.ensures.may in
+    let P : Entry → Type 0 = λ e. Performs j c.in-Some.thread c.next_call-next_call.result e (joint_of c.perform.new.self) in
+    let may = subst (λ (own : ℕ). MayIn own c.index.result.now.thread_state.phase c.index.result.now.thread_state.rest c.next_call-next_call.result.object c.next_call-next_call.result.op) c.own-own.ensures c.next_call-next_call.ensures.may in
     IfOk-weaker c.perform.result P _
     (λ e p.
-    let moved = chosen-step x j c.requires.running.formed c.requires.running.sound c.in-Some.thread c.index.result.now.standing (is_chosen one) (seat_of d (is_chosen one).within)
-    c.wish-wish.result may (joint_of c.perform.new.self) e p c.args.rules.limit c.wish-wish.ensures.limit in
+    let moved = chosen-step x j c.requires.running.formed c.requires.running.sound c.in-Some.thread c.index.result.now.thread_state (is_chosen one) (seat_of d (is_chosen one).within)
+    c.next_call-next_call.result may (joint_of c.perform.new.self) e p c.args.rules.limit c.next_call-next_call.ensures.limit in
     record {
       step = moved.0;
       draw = c.draw_after-draw.ensures;

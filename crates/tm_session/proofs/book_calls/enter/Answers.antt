@@ -1,7 +1,7 @@
 use Rattle.std.proofs.Common.{sym, subst}
 use Rattle.tm_base.specs.declared.operations.Op.{Op}
 use Rattle.tm_session.specs.Acting.{IsNoted}
-use Rattle.tm_session.proofs.books.enter.Goals as goal
+use Rattle.tm_session.proofs.book_calls.enter.Goals as goal
 
 pub returns-in-Resume-clause-entered : goal.returns-in-Resume-clause-entered
 returns-in-Resume-clause-entered c =

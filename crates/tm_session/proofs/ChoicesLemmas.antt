@@ -7,8 +7,8 @@ use Rattle.std.proofs.lemmas.List.FromFn.{length-map-range_with_len}
 use Rattle.std.proofs.lemmas.List.Folds.{find-append}
 use Rattle.std.proofs.Math.Nat.{mod-lt}
 use Rattle.std.proofs.lemmas.Option.{slice_get-map, slice_get_within, slice_get-get_or}
-use Rattle.tm_base.specs.declared.outcomes.Bar.{Bar}
-use Rattle.tm_replay.specs.Joint.{Joint}
+use Rattle.tm_base.specs.declared.bars.Bar.{Bar}
+use Rattle.tm_replay.specs.JointStates.{JointState}
 use Rattle.tm_replay.specs.Bars.{bar_of, bars_of, is_runnable, is_over, is_stuck}
 use Rattle.tm_session.specs.Choices.{runs_at, is_runnable_bar, next_thread, runnable_threads, picked, chosen_thread, cyclic}
 
@@ -67,24 +67,24 @@ slice_get-range a (suc n) zero h = let e : a ≡ a + 0 = omega arith in ap Some 
 slice_get-range a (suc n) (suc k) h = let e : a + 1 + k ≡ a + suc k = omega arith in slice_get-range (a + 1) n k (omega (arith, h)) ∙ ap Some e
 
 -- the bars of a joint state are those of its threads
-pub bar-at : (j : Joint) (t : ℕ) → t < length j.standings - 1 → slice_get (bars_of j) t ≡ Some (bar_of j (suc t))
+pub bar-at : (j : JointState) (t : ℕ) → t < length j.threads - 1 → slice_get (bars_of j) t ≡ Some (bar_of j (suc t))
 bar-at j t h =
     let e : 1 + t ≡ suc t = omega arith in
-    slice_get-map (bar_of j) (range_with_len 1 (length j.standings - 1)) t ∙ ap (λ o. option_map (bar_of j) o) (slice_get-range 1 (length j.standings - 1) t h ∙ ap Some e)
+    slice_get-map (bar_of j) (range_with_len 1 (length j.threads - 1)) t ∙ ap (λ o. option_map (bar_of j) o) (slice_get-range 1 (length j.threads - 1) t h ∙ ap Some e)
 
-pub bars-count : (j : Joint) → length (bars_of j) ≡ length j.standings - 1
-bars-count j = length-map-range_with_len (bar_of j) 1 (length j.standings - 1)
+pub bars-count : (j : JointState) → length (bars_of j) ≡ length j.threads - 1
+bars-count j = length-map-range_with_len (bar_of j) 1 (length j.threads - 1)
 
 -- a thread that runs by the bars is a program thread, and runnable
-pub runs-known : (j : Joint) (t : ℕ) → runs_at (bars_of j) t ≡ true → (1 ≤ t) × (t < length j.standings) × (is_runnable (bar_of j t) ≡ true)
+pub runs-known : (j : JointState) (t : ℕ) → runs_at (bars_of j) t ≡ true → (1 ≤ t) × (t < length j.threads) × (is_runnable (bar_of j t) ≡ true)
 runs-known j zero h = absurd (false≢true h)
 runs-known j (suc t) h = go (slice_get (bars_of j) t) refl
   where
-    go : (o : Option Bar) → slice_get (bars_of j) t ≡ o → (1 ≤ suc t) × (suc t < length j.standings) × (is_runnable (bar_of j (suc t)) ≡ true)
+    go : (o : Option Bar) → slice_get (bars_of j) t ≡ o → (1 ≤ suc t) × (suc t < length j.threads) × (is_runnable (bar_of j (suc t)) ≡ true)
     go None e = absurd (false≢true (sym (ap is_runnable_bar e) ∙ h))
     go (Some b) e =
         let within : t < length (bars_of j) = slice_get_within (bars_of j) t b e in
-        let inside : t < length j.standings - 1 = omega (arith, within, bars-count j) in
+        let inside : t < length j.threads - 1 = omega (arith, within, bars-count j) in
         (omega arith, omega (arith, inside), sym (ap is_runnable_bar (bar-at j t inside)) ∙ h)
 
 -- where no thread in cyclic order runs, none does
@@ -92,12 +92,12 @@ all-from_each : (p : Bar → Bool) (bars : List Bar) → ((i : ℕ) (b : Bar) �
 all-from_each p [] each = refl
 all-from_each p (b ∷ bars) each = rw (each 0 b refl) (all-from_each p bars (λ i c at. each (suc i) c at))
 
-none_of_parts : (p : ℕ → Bool) (front back : List ℕ) → find p (front ++ back) ≡ None → (find p front ≡ None) × (find p back ≡ None)
-none_of_parts p front back h = go (find p front) refl
+none_of_parts : (p : ℕ → Bool) (prefix back : List ℕ) → find p (prefix ++ back) ≡ None → (find p prefix ≡ None) × (find p back ≡ None)
+none_of_parts p prefix back h = go (find p prefix) refl
   where
-    go : (o : Option ℕ) → find p front ≡ o → (find p front ≡ None) × (find p back ≡ None)
-    go None e = (e, sym (ap (λ o. option_or o (find p back)) e) ∙ sym (find-append p front back) ∙ h)
-    go (Some t) e = absurd (let s : Some t ≡ None = sym (ap (λ o. option_or o (find p back)) e) ∙ sym (find-append p front back) ∙ h in cc)
+    go : (o : Option ℕ) → find p prefix ≡ o → (find p prefix ≡ None) × (find p back ≡ None)
+    go None e = (e, sym (ap (λ o. option_or o (find p back)) e) ∙ sym (find-append p prefix back) ∙ h)
+    go (Some t) e = absurd (let s : Some t ≡ None = sym (ap (λ o. option_or o (find p back)) e) ∙ sym (find-append p prefix back) ∙ h in cc)
 
 pub none-runs : (bars : List Bar) (last : ℕ) → last ≤ length bars → next_thread bars last ≡ None → list_all (λ b. not (is_runnable b)) bars ≡ true
 none-runs bars last low h = all-from_each (λ b. not (is_runnable b)) bars (λ i b at. ap not (sym (runs_at-bar bars (suc i) b (omega arith) (place i b at)) ∙ idle (suc i) (omega arith) (slice_get_within bars i b at)))

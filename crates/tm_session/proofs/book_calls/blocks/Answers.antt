@@ -1,7 +1,7 @@
 use Rattle.std.proofs.Common.{◌≡◌, Bool, true, false, is_some, not, ap, sym, ◌∙◌}
 use Rattle.tm_base.specs.States.{grant_of}
 use Rattle.tm_session.proofs.Blocking.{blocked}
-use Rattle.tm_session.proofs.books.blocks.Goals as goal
+use Rattle.tm_session.proofs.book_calls.blocks.Goals as goal
 
 negated : (a b : Bool) → a ≡ not b → b ≡ not a
 negated a true e = sym (ap not e)

@@ -1,7 +1,8 @@
 ghost use Rattle.std.specs.Prelude.{◌≡◌, ◌<◌, ◌≤◌, ◌^◌, IfOk, OnErr, true};
 ghost use Rattle.tm_base.specs.States.{is_pending, is_waiting, queued};
+ghost use Rattle.tm_book.specs.Books.{CanEnter};
 ghost use Rattle.tm_replay.specs.Bars.{is_some_queued};
-ghost use Rattle.tm_session.specs.Acting.{CanEnter, IsNoted};
+ghost use Rattle.tm_session.specs.Acting.{IsNoted};
 
 use tm_base::{Entry, Machine, NoMemory, Op, Ticket};
 use tm_book::Book;
@@ -16,13 +17,13 @@ pub fn blocks(book: &Book, thread: u32) -> bool
 
 /// Whether a call on the book's object waits.
 pub fn has_waiter(book: &Book) -> bool
-    ensures { result ≡ is_some_queued (queued book.now.machine.state.own) }
+    ensures { result ≡ is_some_queued (queued book.now.machine.state.kind_state) }
 {
     book.machine().waiters() > 0
 }
 
 /// Makes the operation's event in the book, by the thread's ticket. What the book owes takes no
-/// memory. Only want of memory refuses another call, and leaves the ticket as it was.
+/// memory. Only running out of memory refuses another call, and leaves the ticket as it was.
 pub fn enter(book: &mut Book, ticket: &mut Ticket, op: Op) -> Result<Entry, NoMemory>
     requires may { CanEnter book.old ticket.old op }
     requires next { ticket.old.next < 2 ^ 62 }
