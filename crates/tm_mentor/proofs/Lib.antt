@@ -1,5 +1,5 @@
-pub mod Spelling
+pub mod CommandLineLemmas
 pub mod Setting
-pub mod Reading
+pub mod CommandLineReader
 pub mod Judged
 pub mod Told

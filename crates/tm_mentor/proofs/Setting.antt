@@ -5,8 +5,9 @@ use Rattle.tm_session.specs.declared.rules.Rules.{Rules}
 use Rattle.tm_mentor.specs.declared.settings.Setting.{Setting}
 use Rattle.tm_mentor.specs.declared.settings.Setting.TheVariants.{Schedule, Events}
 use Rattle.tm_mentor.specs.declared.settings.Chosen.{Chosen}
-use Rattle.tm_mentor.specs.Words.{AtMostOnce, limits_of, rules_by, schedules_of}
-use Rattle.tm_mentor.specs.Choosing.{Sets, rules_from}
+use Rattle.tm_mentor.specs.declared.settings.TheConstants.{USUAL_EVENTS, USUAL_SCHEDULE}
+use Rattle.tm_mentor.specs.CommandLine.{AtMostOnce, limits_of, rules_by, schedules_of}
+use Rattle.tm_mentor.specs.ChosenSettings.{Sets, rules_from}
 
 -- nothing, or one value of each kind
 abbrev pub chosen : Option ℕ → Option ℕ → Chosen
@@ -69,7 +70,7 @@ head (Some v) d = refl
 pub rules_are : (ss : List Setting) (after : Chosen) → Sets (chosen None None) ss after → rules_from after ≡ rules_by ss
 rules_are ss after sets =
     let adds = Sets-adds ss None None after sets in
-    let schedule : (rules_from after).schedule ≡ (rules_by ss).schedule = head after.schedule 0 ∙ ap (λ l. get_or l 0 0) adds.schedule in
-    let limit : (rules_from after).limit ≡ (rules_by ss).limit = head after.events 1000 ∙ ap (λ l. get_or l 0 1000) adds.events in
+    let schedule : (rules_from after).schedule ≡ (rules_by ss).schedule = head after.schedule USUAL_SCHEDULE ∙ ap (λ l. get_or l 0 USUAL_SCHEDULE) adds.schedule in
+    let limit : (rules_from after).limit ≡ (rules_by ss).limit = head after.events USUAL_EVENTS ∙ ap (λ l. get_or l 0 USUAL_EVENTS) adds.events in
     let made : ℕ → ℕ → Rules = λ s l. record { schedule = s; limit = l } in
     ap (λ s. made s (rules_from after).limit) schedule ∙ ap (λ l. made (rules_by ss).schedule l) limit

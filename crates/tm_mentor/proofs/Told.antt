@@ -1,23 +1,23 @@
 -- What an outcome tells, by what happened.
-use Rattle.std.proofs.Common.{ℕ, Bool, true, false, List, [], ◌∷◌, Option, Some, None, lit<, refl, String, ◌≡◌, ◌↔◌, ap, arith, inl, inr}
+use Rattle.std.proofs.Common.{ℕ, ◌<◌, Bool, true, false, List, [], ◌∷◌, Option, Some, None, lit<, refl, String, ◌≡◌, ◌↔◌, ap, arith, inl, inr}
 use Rattle.std.specs.List.{Contains}
 use Rattle.std.specs.Option.{IfSome, IsSomeAnd}
 use Rattle.std.specs.declared.alloc.Global.{Global}
-use Rattle.tm_base.specs.declared.outcomes.End.{End}
-use Rattle.tm_base.specs.declared.outcomes.End.TheVariants.{Done, Stuck, Budget}
-use Rattle.tm_outside.specs.Faults.{Rose}
+use Rattle.tm_base.specs.declared.ends.End.{End}
+use Rattle.tm_base.specs.declared.ends.End.TheVariants.{Done, Stuck, Budget}
+use Rattle.tm_outside.specs.Faults.{next_count, Rose}
 use Rattle.tm_text.specs.Exercises.{ExerciseView}
 use Rattle.tm_text.specs.Grammar.{IsExercise}
 use Rattle.tm_mentor.specs.declared.refusals.Refusal.{Refusal}
 use Rattle.tm_mentor.specs.declared.refusals.Refusal.TheVariants.{Usage, Text, ReadFault}
 use Rattle.tm_mentor.specs.declared.answers.Answer.{Answer}
 use Rattle.tm_mentor.specs.declared.answers.Answer.TheVariants.{Refused, Ran, NoMemory}
-use Rattle.tm_mentor.specs.Words.{SpellsNoRun, SpellsRun}
+use Rattle.tm_mentor.specs.CommandLine.{SpellsNoRun, SpellsRun}
 use Rattle.tm_session.specs.declared.rules.Rules.{Rules}
-use Rattle.tm_mentor.specs.Refusals.{status_of}
+use Rattle.tm_mentor.specs.Refusals.{line_of, status_of}
 use Rattle.tm_mentor.specs.Outside.{Input, Output}
 use Rattle.tm_mentor.specs.Found.{IsNoExercise}
-use Rattle.tm_mentor.specs.Answers.{Answers, Forgoes, Sends, outcome_of, statuses, end_status, unless_failed, IsWritten}
+use Rattle.tm_mentor.specs.Outcomes.{Answers, Forgoes, Sends, outcome_of, statuses, end_status, unless_failed, IsWritten}
 
 -- every status is one of these
 refused_status_by : (refusal : Refusal) (failed : Bool) → Contains statuses (unless_failed failed (status_of refusal))
@@ -46,9 +46,13 @@ no_exercise_told : (left : Option (List ℕ)) (x : ExerciseView) → IfSome left
 no_exercise_told None x none told = told
 no_exercise_told (Some bytes) x none told = none x told
 
+-- a fault that was counted is one that came
+came : (before now : ℕ) → now ≡ next_count before → Rose before now
+came before now counted = omega arith
+
 -- without a fault the text of a run was written
 written_status_by : (sent sent' : Output) (bytes : List ℕ) (failed : Bool) (end : End) → Sends failed sent sent' bytes → ¬ Rose sent.faults sent'.faults → Contains (0 ∷ 6 ∷ 7 ∷ 9 ∷ []) (unless_failed failed (end_status end))
-written_status_by sent sent' bytes true end w steady = absurd (steady w.0)
+written_status_by sent sent' bytes true end w steady = absurd (steady (came sent.faults sent'.faults w.0))
 written_status_by sent sent' bytes false Done w steady = (0, lit< tt, refl)
 written_status_by sent sent' bytes false Stuck w steady = (1, lit< tt, refl)
 written_status_by sent sent' bytes false Budget w steady = (2, lit< tt, refl)
@@ -57,7 +61,7 @@ written_status_by sent sent' bytes false Budget w steady = (2, lit< tt, refl)
 pub complete_by : (words : List (String Global)) (read read' : Input) (sent sent' : Output) (x : ExerciseView) (rules : Rules) (a : Answer) → Answers words read read' sent sent' a → SpellsRun words rules → IsSomeAnd read.left (λ bytes. IsExercise bytes x) → ¬ Rose read.faults read'.faults → ¬ Rose sent.faults sent'.faults → Contains (0 ∷ 6 ∷ 7 ∷ 9 ∷ []) (outcome_of a).status
 complete_by words read read' sent sent' x rules (Refused Usage failed) w spelled told no_read no_write = absurd (w.cause.unspelled rules spelled)
 complete_by words read read' sent sent' x rules (Refused Text failed) w spelled told no_read no_write = absurd (no_exercise_told read.left x w.cause.none told)
-complete_by words read read' sent sent' x rules (Refused ReadFault failed) w spelled told no_read no_write = absurd (no_read w.cause.rose)
+complete_by words read read' sent sent' x rules (Refused ReadFault failed) w spelled told no_read no_write = absurd (no_read (came read.faults read'.faults w.cause.counted))
 complete_by words read read' sent sent' x rules (Ran f) w spelled told no_read no_write = written_status_by sent sent' w.bytes f.write_fault f.end w.whole no_write
 complete_by words read read' sent sent' x rules NoMemory w spelled told no_read no_write = (3, lit< tt, refl)
 
@@ -79,7 +83,7 @@ usage_by words read read' sent sent' (Refused ReadFault true) w same = absurd (o
 usage_by words read read' sent sent' (Ran f) w same = absurd (run_is_no_usage f.write_fault f.end same)
 usage_by words read read' sent sent' NoMemory w same = absurd (omega arith)
 
--- where memory was wanting the words spell a run
+-- where memory ran out the words spell a run
 forgone_spells : (words : List (String Global)) (read read' : Input) (sent sent' : Output) → Forgoes words read read' sent sent' → (rules : Rules) × SpellsRun words rules
 forgone_spells words read read' sent sent' (inl short) = (short.unknown.rules, short.unknown.spelled)
 forgone_spells words read read' sent sent' (inr short) = (short.rules, short.found.spelled)
@@ -165,3 +169,35 @@ pub written_by : (a : Answer) (end : End) → ((outcome_of a).status ≡ end_sta
 written_by (Refused refusal failed) end = (λ same. absurd (refused_is_no_end refusal failed end same), λ w. absurd w)
 written_by (Ran f) end = (end_told f.write_fault f.end end, told_end f.write_fault f.end end)
 written_by NoMemory end = (λ same. absurd (no_memory_is_no_end end same), λ w. absurd w)
+
+-- the status 9 is that of a command that ran out of memory
+refused_is_no_9 : (refusal : Refusal) (failed : Bool) → unless_failed failed (status_of refusal) ≡ 9 → ⊥
+refused_is_no_9 Usage false same = omega arith
+refused_is_no_9 Text false same = omega arith
+refused_is_no_9 ReadFault false same = omega arith
+refused_is_no_9 Usage true same = omega arith
+refused_is_no_9 Text true same = omega arith
+refused_is_no_9 ReadFault true same = omega arith
+
+run_is_no_9 : (failed : Bool) (end : End) → unless_failed failed (end_status end) ≡ 9 → ⊥
+run_is_no_9 false Done same = omega arith
+run_is_no_9 false Stuck same = omega arith
+run_is_no_9 false Budget same = omega arith
+run_is_no_9 true Done same = omega arith
+run_is_no_9 true Stuck same = omega arith
+run_is_no_9 true Budget same = omega arith
+
+pub no_memory_by : (words : List (String Global)) (read read' : Input) (sent sent' : Output) (a : Answer) → Answers words read read' sent sent' a → (outcome_of a).status ≡ 9 → Forgoes words read read' sent sent'
+no_memory_by words read read' sent sent' (Refused refusal failed) w same = absurd (refused_is_no_9 refusal failed same)
+no_memory_by words read read' sent sent' (Ran f) w same = absurd (run_is_no_9 f.write_fault f.end same)
+no_memory_by words read read' sent sent' NoMemory w same = w
+
+-- a fault of the sink shows, unless memory ran out
+sent_fault_by : (sent sent' : Output) (bytes : List ℕ) (failed : Bool) (status : ℕ) → Sends failed sent sent' bytes → sent.faults < sent'.faults → Contains (5 ∷ 9 ∷ []) (unless_failed failed status)
+sent_fault_by sent sent' bytes true status w rises = (0, lit< tt, refl)
+sent_fault_by sent sent' bytes false status w rises = absurd (omega (arith, w.0, rises))
+
+pub write_faults_by : (words : List (String Global)) (read read' : Input) (sent sent' : Output) (a : Answer) → Answers words read read' sent sent' a → sent.faults < sent'.faults → Contains (5 ∷ 9 ∷ []) (outcome_of a).status
+write_faults_by words read read' sent sent' (Refused refusal failed) w rises = sent_fault_by sent sent' (line_of refusal) failed (status_of refusal) w.line rises
+write_faults_by words read read' sent sent' (Ran f) w rises = sent_fault_by sent sent' w.bytes f.write_fault (end_status f.end) w.whole rises
+write_faults_by words read read' sent sent' NoMemory w rises = (1, lit< tt, refl)

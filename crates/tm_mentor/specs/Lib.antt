@@ -1,6 +1,7 @@
-pub mod Words
-pub mod Choosing
+pub mod CommandLine
+pub mod ChosenSettings
 pub mod Refusals
 pub mod Outside
 pub mod Found
-pub mod Answers
+pub mod Outcomes
+pub mod Processes

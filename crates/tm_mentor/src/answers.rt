@@ -1,10 +1,11 @@
 ghost use Rattle.std.specs.Prelude.{◌≡◌, ◌≤◌};
-ghost use Rattle.tm_mentor.specs.Words.{SpellsNoRun};
+ghost use Rattle.tm_mentor.specs.CommandLine.{SpellsNoRun};
 ghost use Rattle.tm_mentor.specs.Refusals.{line_of};
 ghost use Rattle.tm_mentor.specs.Outside.{input_of, output_of};
-ghost use Rattle.tm_mentor.specs.Answers.{Answers, Sends};
+ghost use Rattle.tm_mentor.specs.Found.{ReadsAtMost};
+ghost use Rattle.tm_mentor.specs.Outcomes.{Answers, Sends};
 
-use crate::commands::{Command, Lack, read_command};
+use crate::commands::{Command, CommandError, read_command};
 use crate::refusals::{Refusal, line};
 use std::alloc::Global;
 use tm_outside::{Sink, Source, write_all};
@@ -17,7 +18,7 @@ pub(crate) enum Answer {
     Refused { refusal: Refusal, write_fault: bool },
     /// A run ended.
     Ran(Finished),
-    /// Memory was wanting.
+    /// Memory ran out.
     NoMemory,
 }
 
@@ -32,6 +33,7 @@ pub(crate) fn carry_out<S: Source, K: Sink>(
         (input_of S.left S.fault_count source.old) (input_of S.left S.fault_count source.new)
         (output_of K.written K.fault_count sink.old) (output_of K.written K.fault_count sink.new)
         result }
+    ensures taken { ReadsAtMost (S.left source.old) (S.left source.new) }
     ensures unread { SpellsNoRun words.now → source.new ≡ source.old }
     ensures source_never_falls { S.fault_count source.old ≤ S.fault_count source.new }
     ensures sink_never_falls { K.fault_count sink.old ≤ K.fault_count sink.new }
@@ -43,11 +45,11 @@ pub(crate) fn carry_out<S: Source, K: Sink>(
                 Err(_) => Answer::NoMemory,
             }
         }
-        Err(Lack::Refused(refusal)) => Answer::Refused {
+        Err(CommandError::Refused(refusal)) => Answer::Refused {
             refusal,
             write_fault: fails_at_line(refusal, sink),
         },
-        Err(Lack::NoMemory) => Answer::NoMemory,
+        Err(CommandError::NoMemory) => Answer::NoMemory,
     }
 }
 

@@ -1,14 +1,14 @@
 ghost use Rattle.std.specs.Prelude.{◌≡◌, ◌≤◌, MatchResult};
-ghost use Rattle.tm_mentor.specs.Words.{SpellsNoRun};
+ghost use Rattle.tm_mentor.specs.CommandLine.{SpellsNoRun};
 ghost use Rattle.tm_mentor.specs.Outside.{input_of};
-ghost use Rattle.tm_mentor.specs.Found.{HasCommand, LacksCommand};
+ghost use Rattle.tm_mentor.specs.Found.{HasCommand, IsCommandError, ReadsAtMost};
 
+use crate::command_line::spell_run;
 use crate::refusals::Refusal;
-use crate::words::spell_run;
 use std::alloc::Global;
 use tm_outside::{ReadFault, Source, read_all};
 use tm_session::Rules;
-use tm_text::{Exercise, NoExercise, read};
+use tm_text::{Exercise, MOST_BYTES, NoExercise, read};
 
 /// What a command is to run.
 #[derive(Debug, Drop)]
@@ -21,15 +21,12 @@ pub(crate) struct Command {
 
 /// Why there is nothing to run.
 #[derive(Clone, Copy, Debug, PartialEq, Eq)]
-pub(crate) enum Lack {
+pub(crate) enum CommandError {
     /// The command is refused.
     Refused(Refusal),
-    /// Memory was wanting.
+    /// Memory ran out.
     NoMemory,
 }
-
-/// How many bytes a text may have.
-const MOST_BYTES: u64 = 1_048_576;
 
 /// The exercise that is to be run, and its rules: the words spell them, and the source has its
 /// text.
@@ -37,24 +34,25 @@ pub(crate) fn read_command<S: Source>(
     alloc: Global,
     words: &[String],
     source: &mut S,
-) -> Result<Command, Lack>
+) -> Result<Command, CommandError>
     ensures found { MatchResult result
         (HasCommand words.now (input_of S.left S.fault_count source.old) (input_of S.left S.fault_count source.new))
-        (LacksCommand words.now (input_of S.left S.fault_count source.old) (input_of S.left S.fault_count source.new)) }
+        (IsCommandError words.now (input_of S.left S.fault_count source.old) (input_of S.left S.fault_count source.new)) }
+    ensures taken { ReadsAtMost (S.left source.old) (S.left source.new) }
     ensures unread { SpellsNoRun words.now → source.new ≡ source.old }
     ensures never_falls { S.fault_count source.old ≤ S.fault_count source.new }
 {
     let Some(rules) = spell_run(words) else {
-        return Err(Lack::Refused(Refusal::Usage));
+        return Err(CommandError::Refused(Refusal::Usage));
     };
-    let bytes = match read_all(alloc, source, MOST_BYTES) {
+    let bytes = match read_all(alloc, source, MOST_BYTES as u64) {
         Ok(bytes) => bytes,
-        Err(ReadFault::Failed) => return Err(Lack::Refused(Refusal::ReadFault)),
-        Err(ReadFault::NoMemory) => return Err(Lack::NoMemory),
+        Err(ReadFault::Failed) => return Err(CommandError::Refused(Refusal::ReadFault)),
+        Err(ReadFault::NoMemory) => return Err(CommandError::NoMemory),
     };
     match read(alloc, bytes.as_slice()) {
         Ok(exercise) => Ok(Command { exercise, rules }),
-        Err(NoExercise::Text) => Err(Lack::Refused(Refusal::Text)),
-        Err(NoExercise::NoMemory) => Err(Lack::NoMemory),
+        Err(NoExercise::Text) => Err(CommandError::Refused(Refusal::Text)),
+        Err(NoExercise::NoMemory) => Err(CommandError::NoMemory),
     }
 }

@@ -1,5 +1,5 @@
 ghost use Rattle.std.specs.Prelude.{◌≡◌};
-ghost use Rattle.tm_mentor.specs.Answers.{end_status, outcome_of, unless_failed};
+ghost use Rattle.tm_mentor.specs.Outcomes.{end_status, outcome_of, unless_failed};
 
 use crate::answers::Answer;
 use crate::refusals::refusal_status;
@@ -11,7 +11,7 @@ use tm_session::Finished;
 pub struct Outcome {
     /// 0, 6 or 7: a run ended by itself, stuck or with a thread cut at its limit of calls, and its
     /// text was written. 2: the words spell no run. 3: what was read is the text of no exercise. 4:
-    /// the source failed. 5: the sink failed. 9: memory was wanting.
+    /// the source failed. 5: the sink failed. 9: memory ran out.
     pub status: u8,
     /// The run that ended, whether its text was written or the sink failed.
     pub finished: Option<Finished>,

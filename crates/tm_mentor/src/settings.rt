@@ -1,6 +1,6 @@
 ghost use Rattle.std.specs.Prelude.{◌≡◌, ◌∷◌, [], ◌^◌, ◌≤◌, ℕ, MatchOption};
-ghost use Rattle.tm_mentor.specs.Words.{IsNumber, Spells};
-ghost use Rattle.tm_mentor.specs.Choosing.{chosen_with, rules_from};
+ghost use Rattle.tm_mentor.specs.CommandLine.{IsNumber, Spells};
+ghost use Rattle.tm_mentor.specs.ChosenSettings.{chosen_with, rules_from};
 
 use tm_session::Rules;
 
@@ -28,7 +28,10 @@ const USUAL_SCHEDULE: u64 = 0;
 /// How many calls a thread may make where no number is set.
 const USUAL_EVENTS: u32 = 1_000;
 
-/// How many calls a thread may be given.
+/// The fewest calls that may be set.
+const FEWEST_EVENTS: u64 = 1;
+
+/// The most calls that may be set.
 const MOST_EVENTS: u64 = 10_000;
 
 impl Chosen {
@@ -83,13 +86,13 @@ fn value_of(number: &str) -> Option<u64>
     number.parse::<u64>().ok()
 }
 
-/// The number from 1 to 10,000 that the digits spell, if the text is digits of one.
+/// The number of calls that the digits spell, if the text is digits of one that may be set.
 fn limit_of(number: &str) -> Option<u32>
-    ensures { MatchOption result ((n : ℕ) → IsNumber number.now n → 1 ≤ n → ¬ (n ≤ 10000))
-        (λ n. IsNumber number.now n × (1 ≤ n) × (n ≤ 10000)) }
+    ensures { MatchOption result ((n : ℕ) → IsNumber number.now n → FEWEST_EVENTS ≤ n → ¬ (n ≤ MOST_EVENTS))
+        (λ n. IsNumber number.now n × (FEWEST_EVENTS ≤ n) × (n ≤ MOST_EVENTS)) }
 {
     let value = value_of(number)?;
-    if value < 1 || MOST_EVENTS < value {
+    if value < FEWEST_EVENTS || MOST_EVENTS < value {
         return None;
     }
     Some(value as u32)

@@ -1,7 +1,11 @@
 use super::*;
 use std::alloc::Global;
+use std::env::Args;
+use std::io;
+use std::io::ErrorKind;
+use std::process::ExitCode;
 use std::test::Fail;
-use tm_base::End;
+use tm_base::{End, NoMemory};
 use tm_outside::{MemorySink, MemorySource};
 
 /// Two threads that take one mutex in turn.
@@ -248,5 +252,83 @@ fn a_line_that_fails_makes_the_status_5(rt: HostRuntime) -> Result<(), Fail> {
     assert_eq!(rt; sink.bytes(), b"".as_slice());
     assert_eq!(rt; outcome.status, 5);
     assert!(rt; outcome.finished.is_none());
+    Ok(())
+}
+
+/// The arguments of a process, which spaces part.
+fn arguments(alloc: Global, text: &str) -> Result<Args, Fail> {
+    let mut all = Vec::new(alloc);
+    for word in text.split_whitespace() {
+        all.push(String::from_str(alloc, word)?)?;
+    }
+    Ok(all.into_iter())
+}
+
+#[test]
+fn the_words_are_the_arguments_after_the_first(rt: HostRuntime) -> Result<(), Fail> {
+    let given = arguments(rt.alloc(), "mentor run --events 1")?;
+    let words = command_words(rt.alloc(), Ok(given)).map_err(|_| "no words")?;
+    assert_eq!(rt; words.len(), 3);
+    for (word, want) in words.iter().zip(["run", "--events", "1"]) {
+        assert_eq!(rt; word.as_str(), want);
+    }
+    for text in ["mentor", ""] {
+        let given = arguments(rt.alloc(), text)?;
+        let words = command_words(rt.alloc(), Ok(given)).map_err(|_| "no words")?;
+        assert!(rt; words.is_empty(), "for {text:?}");
+    }
+    Ok(())
+}
+
+#[test]
+fn arguments_that_are_no_text_give_no_words(rt: HostRuntime) -> Result<(), Fail> {
+    let no_text = Err(io::Error::from(ErrorKind::InvalidData));
+    let words = command_words(rt.alloc(), no_text).map_err(|_| "no words")?;
+    assert!(rt; words.is_empty());
+    let no_memory = Err(io::Error::from(ErrorKind::OutOfMemory));
+    assert_eq!(rt; command_words(rt.alloc(), no_memory).err(), Some(NoMemory));
+    Ok(())
+}
+
+#[test]
+fn the_exit_status_is_the_outcomes(rt: HostRuntime) -> Result<(), Fail> {
+    for status in [0u8, 2, 3, 4, 5, 6, 7, 9] {
+        let outcome = Outcome {
+            status,
+            finished: None,
+        };
+        assert_eq!(rt; exit_code(Ok(outcome)), ExitCode::from(status));
+    }
+    assert_eq!(rt; exit_code(Err(NoMemory)), ExitCode::from(9));
+    Ok(())
+}
+
+#[test]
+fn a_process_ends_with_the_status_of_its_command(rt: HostRuntime) -> Result<(), Fail> {
+    let table = [
+        ("mentor run", PAIR, PAIR_ROWS, 0u8),
+        ("mentor run", CROSSED, CROSSED_ROWS, 6),
+        ("mentor run --events 1", TWICE, CUT_ROWS, 7),
+        ("mentor", PAIR, "mentor: usage\n", 2),
+    ];
+    for (given, text, written, status) in table {
+        let given = arguments(rt.alloc(), given)?;
+        let mut source = MemorySource::make(rt.alloc(), text.as_bytes(), &[])?;
+        let mut sink = MemorySink::make(rt.alloc(), 4096, &[])?;
+        let code = run_process(rt.alloc(), Ok(given), &mut source, &mut sink);
+        assert_eq!(rt; code, ExitCode::from(status));
+        assert_eq!(rt; sink.bytes(), written.as_bytes());
+    }
+    Ok(())
+}
+
+#[test]
+fn without_memory_for_its_words_a_process_does_nothing(rt: HostRuntime) -> Result<(), Fail> {
+    let mut source = MemorySource::make(rt.alloc(), PAIR.as_bytes(), &[])?;
+    let mut sink = MemorySink::make(rt.alloc(), 4096, &[])?;
+    let no_memory = Err(io::Error::from(ErrorKind::OutOfMemory));
+    let code = run_process(rt.alloc(), no_memory, &mut source, &mut sink);
+    assert_eq!(rt; code, ExitCode::from(9));
+    assert!(rt; sink.bytes().is_empty());
     Ok(())
 }

@@ -1,16 +1,16 @@
 ghost use Rattle.std.specs.Prelude.{◌≡◌, ◌↔◌, ℕ, ◌<◌, ◌≤◌, [], ◌∷◌, List, Contains, IfSome, IsSomeAnd, IfNone, MatchOption};
-ghost use Rattle.tm_base.specs.declared.outcomes.End.{End};
-ghost use Rattle.tm_outside.specs.Faults.{Rose};
+ghost use Rattle.tm_base.specs.declared.ends.End.{End};
+ghost use Rattle.tm_outside.specs.Faults.{next_count, Rose};
 ghost use Rattle.tm_outside.specs.Appending.{Appends};
 ghost use Rattle.tm_session.specs.declared.rules.Rules.{Rules};
 ghost use Rattle.tm_text.specs.Exercises.{ExerciseView};
 ghost use Rattle.tm_text.specs.Grammar.{IsExercise};
 ghost use Rattle.tm_mentor.specs.declared.refusals.Refusal.{Refusal};
-ghost use Rattle.tm_mentor.specs.Words.{SpellsNoRun, SpellsRun};
+ghost use Rattle.tm_mentor.specs.CommandLine.{SpellsNoRun, SpellsRun};
 ghost use Rattle.tm_mentor.specs.Refusals.{line_of, status_of};
 ghost use Rattle.tm_mentor.specs.Outside.{input_of, output_of};
-ghost use Rattle.tm_mentor.specs.Found.{IsNoExercise};
-ghost use Rattle.tm_mentor.specs.Answers.{statuses, end_status, run_status, IsWritten, Runs, RunsNothing};
+ghost use Rattle.tm_mentor.specs.Found.{IsNoExercise, ReadsAtMost};
+ghost use Rattle.tm_mentor.specs.Outcomes.{statuses, end_status, run_status, Forgoes, IsWritten, Runs, RunsNothing};
 
 use crate::answers::carry_out;
 use crate::outcomes::Outcome;
@@ -21,7 +21,7 @@ use tm_outside::{Sink, Source};
 /// most 2^20 bytes to its end, and writes the rows of its alone run and the last line. Two options
 /// may follow it, each at most once: `--schedule` with a number below 2^64, else 0, and `--events`
 /// with the number of calls that a thread may make, from 1 to 10,000, else 1,000. Where nothing is
-/// run it writes a line that says why, unless memory is wanting: `mentor: usage`, `mentor: text` or
+/// run it writes a line that says why, unless memory runs out: `mentor: usage`, `mentor: text` or
 /// `mentor: read fault`.
 pub fn mentor_alone<S: Source, K: Sink>(
     alloc: Global,
@@ -49,6 +49,9 @@ pub fn mentor_alone<S: Source, K: Sink>(
     ensures unspelled { SpellsNoRun words.now → Contains (2 ∷ 5 ∷ []) result.status }
     ensures unread { SpellsNoRun words.now → source.new ≡ source.old }
 
+    // In every answer no more is read than tells that a text is too long.
+    ensures taken { ReadsAtMost (S.left source.old) (S.left source.new) }
+
     // All that the source had left, where it tells that, is the text of no exercise.
     ensures text { result.status ≡ 3
         → ((rules : Rules) × SpellsRun words.now rules) × IfSome (S.left source.old) IsNoExercise }
@@ -56,9 +59,9 @@ pub fn mentor_alone<S: Source, K: Sink>(
         → IsSomeAnd (S.left source.old) IsNoExercise
         → Contains (3 ∷ 4 ∷ 5 ∷ 9 ∷ []) result.status }
 
-    // Faults show, and only faults do.
-    ensures read_fault { result.status ≡ 4 → Rose (S.fault_count source.old) (S.fault_count source.new) }
-    ensures write_fault { result.status ≡ 5 → Rose (K.fault_count sink.old) (K.fault_count sink.new) }
+    // Faults show, and only faults do: 4 comes with one of the source, and 5 with one of the sink.
+    ensures read_fault { result.status ≡ 4 → S.fault_count source.new ≡ next_count (S.fault_count source.old) }
+    ensures write_fault { result.status ≡ 5 → K.fault_count sink.new ≡ next_count (K.fault_count sink.old) }
     ensures read_faults_show { S.fault_count source.old < S.fault_count source.new
         → Contains (4 ∷ 5 ∷ []) result.status }
     ensures write_faults_show { K.fault_count sink.old < K.fault_count sink.new
@@ -72,6 +75,11 @@ pub fn mentor_alone<S: Source, K: Sink>(
         → ¬ Rose (S.fault_count source.old) (S.fault_count source.new)
         → ¬ Rose (K.fault_count sink.old) (K.fault_count sink.new)
         → Contains (0 ∷ 6 ∷ 7 ∷ 9 ∷ []) result.status }
+
+    // Memory ran out: nothing was written, or a prefix of the text of the exercise's alone run, and not all.
+    ensures no_memory { result.status ≡ 9 → Forgoes words.now
+        (input_of S.left S.fault_count source.old) (input_of S.left S.fault_count source.new)
+        (output_of K.written K.fault_count sink.old) (output_of K.written K.fault_count sink.new) }
 
     ensures source_never_falls { S.fault_count source.old ≤ S.fault_count source.new }
     ensures sink_never_falls { K.fault_count sink.old ≤ K.fault_count sink.new }

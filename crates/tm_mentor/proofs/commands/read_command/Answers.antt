@@ -1,4 +1,5 @@
-use Rattle.std.proofs.Common.{ℕ, List, lit<, subst, rules}
+use Rattle.std.proofs.Common.{ℕ, ◌+◌, List, lit<, subst, rules}
+use Rattle.tm_text.specs.declared.limits.TheConstants.{MOST_BYTES}
 use Rattle.tm_text.specs.Grammar.{IsExercise}
 use Rattle.tm_mentor.specs.Found.{IsNoExercise}
 use Rattle.tm_mentor.proofs.Judged.{exercise_of_all, no_exercise_of_all}
@@ -12,7 +13,8 @@ returns-in-Ok-read-clause-found g c =
       spelled = search rules;
       end = c.in-Ok.ensures.end text.size;
       steady = search rules;
-      told = exercise_of_all 1048577 _ (g.S.Source.left c.read_all.new.source) c.in-Ok.bytes _ (lit< tt) c.in-Ok.ensures.first text;
+      formed = text.well_formed;
+      told = exercise_of_all (MOST_BYTES + 1) _ (g.S.Source.left c.read_all.new.source) c.in-Ok.bytes _ (lit< tt) c.in-Ok.ensures.first text;
     }
 
 pub returns-in-Err-Text-clause-found : goal.returns-in-Err-Text-clause-found
@@ -21,7 +23,7 @@ returns-in-Err-Text-clause-found g c =
     record {
       rules = c.in-Some.rules;
       spelled = search rules;
-      front = search rules;
+      taken = search rules;
       steady = search rules;
-      none = no_exercise_of_all 1048577 _ (g.S.Source.left c.read_all.new.source) c.in-Ok.bytes (lit< tt) c.in-Ok.ensures.first none;
+      none = no_exercise_of_all (MOST_BYTES + 1) _ (g.S.Source.left c.read_all.new.source) c.in-Ok.bytes (lit< tt) c.in-Ok.ensures.first none;
     }

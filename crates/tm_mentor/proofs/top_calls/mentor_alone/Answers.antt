@@ -1,10 +1,10 @@
-use Rattle.std.proofs.Common.{[], ◌∷◌, sym, subst, ◌≡◌, ◌↔◌}
+use Rattle.std.proofs.Common.{[], ◌∷◌, sym, ap, ◌∙◌, subst, ◌≡◌, ◌↔◌}
 use Rattle.std.specs.List.{Contains}
 use Rattle.std.specs.Option.{IsSomeAnd}
 use Rattle.tm_mentor.specs.declared.outcomes.Outcome.{Outcome}
-use Rattle.tm_mentor.specs.Words.{SpellsNoRun}
-use Rattle.tm_mentor.specs.Answers.{statuses, end_status, IsWritten}
-use Rattle.tm_mentor.proofs.Told.{status_by, usage_by, unspelled_by, no_exercise_by, complete_by, written_by}
+use Rattle.tm_mentor.specs.CommandLine.{SpellsNoRun}
+use Rattle.tm_mentor.specs.Outcomes.{statuses, end_status, IsWritten}
+use Rattle.tm_mentor.proofs.Told.{status_by, usage_by, unspelled_by, no_exercise_by, complete_by, written_by, write_faults_by, no_memory_by}
 use Rattle.tm_mentor.proofs.top_calls.mentor_alone.Goals as goal
 
 pub returns-clause-statuses : goal.returns-clause-statuses
@@ -40,3 +40,14 @@ returns-clause-no_exercise g c =
     let P : Outcome → Type 0 = λ o. Contains (3 ∷ 4 ∷ 5 ∷ 9 ∷ []) o.status in
     λ rules spelled none.
     subst P (sym c.of.ensures) (no_exercise_by c.args.words.now _ _ _ _ rules c.carry_out-answer.result c.carry_out-answer.ensures.answers spelled none)
+
+pub returns-clause-no_memory : goal.returns-clause-no_memory
+returns-clause-no_memory g c =
+    λ same.
+    no_memory_by c.args.words.now _ _ _ _ c.carry_out-answer.result c.carry_out-answer.ensures.answers (sym (ap (λ (o : Outcome). o.status) c.of.ensures) ∙ same)
+
+pub returns-clause-write_faults_show : goal.returns-clause-write_faults_show
+returns-clause-write_faults_show g c =
+    λ rises.
+    let P : Outcome → Type 0 = λ o. Contains (5 ∷ 9 ∷ []) o.status in
+    subst P (sym c.of.ensures) (write_faults_by c.args.words.now _ _ _ _ c.carry_out-answer.result c.carry_out-answer.ensures.answers rises)

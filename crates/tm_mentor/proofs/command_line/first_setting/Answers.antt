@@ -1,8 +1,8 @@
 use Rattle.std.proofs.Common.{◌≡◌, ◌∷◌, List, ℕ, ◌∙◌, ap, subst, string_bytes, []}
 use Rattle.tm_mentor.specs.declared.settings.Setting.{Setting}
-use Rattle.tm_mentor.specs.Words.{Spells}
-use Rattle.tm_mentor.proofs.Reading.{alone_begins, pair_begins}
-use Rattle.tm_mentor.proofs.words.first_setting.Goals as goal
+use Rattle.tm_mentor.specs.CommandLine.{Spells}
+use Rattle.tm_mentor.proofs.CommandLineReader.{alone_begins, pair_begins}
+use Rattle.tm_mentor.proofs.command_line.first_setting.Goals as goal
 
 pub returns-in_err-second : goal.returns-in_err-second
 returns-in_err-second c =

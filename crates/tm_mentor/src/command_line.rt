@@ -2,8 +2,8 @@ ghost use Rattle.std.specs.Prelude.{◌≡◌, ◌∷◌, [], List, ℕ, map, st
 ghost use Rattle.tm_session.specs.declared.rules.Rules.{Rules};
 ghost use Rattle.tm_mentor.specs.declared.settings.Setting.{Setting};
 ghost use Rattle.tm_mentor.specs.declared.settings.Chosen.{Chosen};
-ghost use Rattle.tm_mentor.specs.Words.{Begins, Spells, SpellsNoRun, SpellsRun, WordsSpellOneRun};
-ghost use Rattle.tm_mentor.specs.Choosing.{Chooses};
+ghost use Rattle.tm_mentor.specs.CommandLine.{Begins, Spells, SpellsNoRun, SpellsRun, WordsSpellOneRun};
+ghost use Rattle.tm_mentor.specs.ChosenSettings.{Chooses};
 
 use crate::settings::{Chosen, Setting, setting_of};
 use tm_session::Rules;

@@ -4,19 +4,19 @@ use Rattle.std.proofs.lemmas.Bool.{false≢true}
 use Rattle.std.proofs.lemmas.Bool.Decides.{Decides-eqb}
 use Rattle.tm_mentor.specs.declared.settings.Setting.{Setting}
 use Rattle.tm_mentor.specs.declared.settings.Setting.TheVariants.{Schedule, Events}
-use Rattle.tm_mentor.specs.Words.{AreOption, AreSettings, Begins, IsNumber, WordsSpellOneRun, rules_by, value_of, word_of}
+use Rattle.tm_mentor.specs.CommandLine.{AreOption, AreSettings, Begins, IsNumber, WordsSpellOneRun, rules_by, value_of, word_of}
 
 -- the words begin with an option and its number, in two words or in one
 abbrev pub BeginsWith : List (List ℕ) → List ℕ → List ℕ → List (List ℕ) → Type 0
 BeginsWith words option number back =
     (words ≡ option ∷ number ∷ back) ⊎ (words ≡ (option ++ codes "=" ++ number) ∷ back)
 
-begins_by : (words front back : List (List ℕ)) (option number : List ℕ) → words ≡ front ++ back → AreOption front option number → BeginsWith words option number back
-begins_by words front back option number parts (inl two) = inl (parts ∙ ap (λ f. f ++ back) two)
-begins_by words front back option number parts (inr one) = inr (parts ∙ ap (λ f. f ++ back) one)
+begins_by : (words prefix back : List (List ℕ)) (option number : List ℕ) → words ≡ prefix ++ back → AreOption prefix option number → BeginsWith words option number back
+begins_by words prefix back option number parts (inl two) = inl (parts ∙ ap (λ f. f ++ back) two)
+begins_by words prefix back option number parts (inr one) = inr (parts ∙ ap (λ f. f ++ back) one)
 
 pub begins : (words : List (List ℕ)) (s : Setting) (back : List (List ℕ)) (b : Begins words s back) → BeginsWith words (word_of s) b.spelled.number back
-begins words s back b = begins_by words b.front back (word_of s) b.spelled.number b.parts b.spelled.written
+begins words s back b = begins_by words b.prefix back (word_of s) b.spelled.number b.parts b.spelled.written
 
 -- no words spell nothing
 none_begin_by : (option number : List ℕ) (back : List (List ℕ)) → BeginsWith [] option number back → ⊥

@@ -4,7 +4,8 @@ use Rattle.tm_session.specs.declared.rules.Rules.{Rules}
 use Rattle.tm_mentor.specs.declared.settings.Setting.{Setting}
 use Rattle.tm_mentor.specs.declared.settings.Setting.TheVariants.{Schedule, Events}
 use Rattle.tm_mentor.specs.declared.settings.Chosen.{Chosen}
-use Rattle.tm_mentor.specs.Words.{AreSettings}
+use Rattle.tm_mentor.specs.declared.settings.TheConstants.{USUAL_EVENTS, USUAL_SCHEDULE}
+use Rattle.tm_mentor.specs.CommandLine.{AreSettings}
 
 -- Nothing is set again.
 abbrev pub with_schedule : Option ℕ → Option ℕ → ℕ → Option Chosen
@@ -31,6 +32,6 @@ pub record Chooses (words : List (List ℕ)) (before after : Chosen) : Type 0 wh
   pub spelled : AreSettings words settings
   pub sets : Sets before settings after
 
--- The rules that are made of it.
+-- The rules that are made of it, with the usual values where none was set.
 abbrev pub rules_from : Chosen → Rules
-rules_from chosen = record { schedule = unwrap_or chosen.schedule 0; limit = unwrap_or chosen.events 1000 }
+rules_from chosen = record { schedule = unwrap_or chosen.schedule USUAL_SCHEDULE; limit = unwrap_or chosen.events USUAL_EVENTS }

@@ -1,16 +1,18 @@
 -- What a command answers, by what happened.
 use Rattle.std.specs.Prelude.{◌≡◌, ℕ, Bool, false, if◌then◌else◌, List, [], ◌∷◌, Some, None, ◌⊎◌, String}
 use Rattle.std.specs.declared.alloc.Global.{Global}
-use Rattle.tm_base.specs.declared.outcomes.End.{End}
-use Rattle.tm_base.specs.declared.outcomes.End.TheVariants.{Done, Stuck, Budget}
+use Rattle.tm_base.specs.declared.ends.End.{End}
+use Rattle.tm_base.specs.declared.ends.End.TheVariants.{Done, Stuck, Budget}
 use Rattle.tm_outside.specs.Appending.{AppendsPrefix}
 use Rattle.tm_text.specs.Exercises.{ExerciseView}
-use Rattle.tm_replay.specs.Joint.{Joint}
-use Rattle.tm_replay.specs.Closing.{FrontsAreClosed}
+use Rattle.tm_replay.specs.JointStates.{JointState}
+use Rattle.tm_replay.specs.Closing.{HasClosedPrefixes}
+use Rattle.tm_replay.specs.Ends.{EndsAs}
+use Rattle.tm_replay.specs.JointOrder.{AreOrdered}
 use Rattle.tm_replay.specs.JointSteps.{IsJointRun}
 use Rattle.tm_session.specs.declared.rules.Rules.{Rules}
 use Rattle.tm_session.specs.declared.runs.Finished.{Finished}
-use Rattle.tm_session.specs.Pages.{IsAloneText, BeginsAloneText}
+use Rattle.tm_session.specs.Transcripts.{IsAloneText, BeginsAloneText}
 use Rattle.tm_session.specs.Shelves.{AreBooksOf}
 use Rattle.tm_session.specs.Sending.{IsSent}
 use Rattle.tm_mentor.specs.declared.refusals.Refusal.{Refusal}
@@ -43,7 +45,7 @@ run_status f = unless_failed f.write_fault (end_status f.end)
 abbrev pub IsWritten : End → Finished → Type 0
 IsWritten end f = (f.write_fault ≡ false) × (f.end ≡ end)
 
--- The bytes were sent to the sink, or a front of them where a write failed.
+-- The bytes were sent to the sink, or a prefix of them where a write failed.
 abbrev pub Sends : Bool → Output → Output → List ℕ → Type 0
 Sends failed old new bytes = IsSent failed old.faults new.faults old.written new.written bytes
 
@@ -53,23 +55,26 @@ pub record IsRefused (words : List (String Global)) (read read' : Input) (sent s
   pub line : Sends failed sent sent' (line_of refusal)
 
 -- The exercise that was found ran to its end: its events are those of its alone run under the rules
--- that the words spell, and a legal run of all objects together; cut after any of them, they are closed
--- under happened-before, and none stands twice; each object's book has the object's events of these, which
--- are a legal history; and the text of that run was sent.
+-- that the words spell, and a legal run of all objects together, which has ended under the limit of the
+-- rules, with this end and these threads cut; their places and stamps are in order; cut after any of them,
+-- they are closed under happened-before, and none stands twice; each object's book has the object's events
+-- of these, which are a legal history; and the text of that run was sent.
 pub record Runs (words : List (String Global)) (read read' : Input) (sent sent' : Output) (f : Finished) : Type 0 where
   pub rules : Rules
   pub exercise : ExerciseView
   pub found : IsFound words rules read read' exercise
-  pub joint : Joint
+  pub joint : JointState
   pub legal : IsJointRun exercise f.shown joint
-  pub closed : FrontsAreClosed f.shown
+  pub ended : EndsAs exercise rules.limit f.shown f.end f.cut
+  pub ordered : AreOrdered f.shown
+  pub closed : HasClosedPrefixes f.shown
   pub books : AreBooksOf exercise f.shown f.books
   pub bytes : List ℕ
   pub text : IsAloneText exercise rules f.shown f.end f.cut bytes
   pub whole : Sends f.write_fault sent sent' bytes
 
--- Memory was wanting in the run of the exercise that was found. A front of its first rows was
--- written.
+-- Memory ran out in the run of the exercise that was found. A prefix of the text of its alone run under
+-- these rules was written, and not all of it.
 pub record RunsShort (words : List (String Global)) (read read' : Input) (sent sent' : Output) : Type 0 where
   pub rules : Rules
   pub exercise : ExerciseView
@@ -78,13 +83,13 @@ pub record RunsShort (words : List (String Global)) (read read' : Input) (sent s
   pub begins : BeginsAloneText exercise rules bytes
   pub written : AppendsPrefix sent.written sent'.written bytes
 
--- Memory was wanting before anything was written.
+-- Memory ran out before anything was written.
 pub record ReadsShort (words : List (String Global)) (read read' : Input) (sent sent' : Output) : Type 0 where
   pub unknown : IsUnknown words read read'
   pub written : sent'.written ≡ sent.written
   pub steady : sent'.faults ≡ sent.faults
 
--- Memory was wanting.
+-- Memory ran out.
 abbrev pub Forgoes : List (String Global) → Input → Input → Output → Output → Type 0
 Forgoes words read read' sent sent' = ReadsShort words read read' sent sent' ⊎ RunsShort words read read' sent sent'
 
@@ -107,11 +112,11 @@ pub record IsTurnedDown (words : List (String Global)) (read read' : Input) (sen
   pub refused : IsRefused words read read' sent sent' refusal failed
   pub same : status ≡ unless_failed failed (status_of refusal)
 
--- The status is that of a command that memory was wanting for.
+-- The status is that of a command that ran out of memory.
 pub record IsForgone (words : List (String Global)) (read read' : Input) (sent sent' : Output) (status : ℕ) : Type 0 where
   pub short : Forgoes words read read' sent sent'
   pub same : status ≡ 9
 
--- No run ended: the command was refused, or memory was wanting.
+-- No run ended: the command was refused, or memory ran out.
 abbrev pub RunsNothing : List (String Global) → Input → Input → Output → Output → ℕ → Type 0
 RunsNothing words read read' sent sent' status = IsTurnedDown words read read' sent sent' status ⊎ IsForgone words read read' sent sent' status

@@ -1,7 +1,7 @@
 use Rattle.std.proofs.Common.{lit<}
 use Rattle.std.proofs.lemmas.Str.Pattern.{split_once_first, split_parts}
-use Rattle.tm_mentor.proofs.Reading.{joined_by}
-use Rattle.tm_mentor.proofs.words.joined_setting.Goals as goal
+use Rattle.tm_mentor.proofs.CommandLineReader.{joined_by}
+use Rattle.tm_mentor.proofs.command_line.joined_setting.Goals as goal
 
 pub returns : goal.returns
 returns c =

@@ -5,6 +5,7 @@ use Rattle.std.specs.Str.Parse.{IsNumeral, digits_value}
 use Rattle.tm_session.specs.declared.rules.Rules.{Rules}
 use Rattle.tm_mentor.specs.declared.settings.Setting.{Setting}
 use Rattle.tm_mentor.specs.declared.settings.Setting.TheVariants.{Schedule, Events}
+use Rattle.tm_mentor.specs.declared.settings.TheConstants.{FEWEST_EVENTS, MOST_EVENTS, USUAL_EVENTS, USUAL_SCHEDULE}
 
 -- The bytes are one or more decimal digits, and n is the number that they write.
 abbrev pub IsNumber : List ℕ → ℕ → Type 0
@@ -20,10 +21,10 @@ abbrev pub value_of : Setting → ℕ
 value_of (Schedule v) = v
 value_of (Events v) = v
 
--- Every schedule of 64 bits may be set, and from 1 to 10,000 calls a thread.
+-- Every schedule of 64 bits may be set, and from the fewest to the most calls of a thread.
 abbrev pub IsAllowed : Setting → Type 0
 IsAllowed (Schedule v) = v < 2 ^ 64
-IsAllowed (Events v) = (1 ≤ v) × (v ≤ 10000)
+IsAllowed (Events v) = (FEWEST_EVENTS ≤ v) × (v ≤ MOST_EVENTS)
 
 -- The option's word and its value's are two words, or one with `=` between them.
 abbrev pub AreOption : List (List ℕ) → List ℕ → List ℕ → Type 0
@@ -38,9 +39,9 @@ pub record Spells (words : List (List ℕ)) (s : Setting) : Type 0 where
 
 -- The words are a spelling of the setting and then these.
 pub record Begins (words : List (List ℕ)) (s : Setting) (back : List (List ℕ)) : Type 0 where
-  pub front : List (List ℕ)
-  pub parts : words ≡ front ++ back
-  pub spelled : Spells front s
+  pub prefix : List (List ℕ)
+  pub parts : words ≡ prefix ++ back
+  pub spelled : Spells prefix s
 
 -- The words are spellings of these settings, one after another.
 abbrev pub AreSettings : List (List ℕ) → List Setting → Type 0
@@ -63,9 +64,9 @@ limits_of (Events v ∷ ss) = v ∷ limits_of ss
 abbrev pub AtMostOnce : List Setting → Type 0
 AtMostOnce ss = (length (schedules_of ss) ≤ 1) × (length (limits_of ss) ≤ 1)
 
--- The rules that they make: schedule 0 and 1,000 calls a thread where they set none.
+-- The rules that they make: the usual schedule and the usual number of calls where they set none.
 abbrev pub rules_by : List Setting → Rules
-rules_by ss = record { schedule = get_or (schedules_of ss) 0 0; limit = get_or (limits_of ss) 0 1000 }
+rules_by ss = record { schedule = get_or (schedules_of ss) 0 USUAL_SCHEDULE; limit = get_or (limits_of ss) 0 USUAL_EVENTS }
 
 -- A run under these rules: the word `run`, and then settings, each at most once, in any order.
 pub record SpellsRun (words : List (String Global)) (rules : Rules) : Type 0 where

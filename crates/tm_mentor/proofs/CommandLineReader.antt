@@ -5,9 +5,9 @@ use Rattle.std.specs.declared.alloc.Global.{Global}
 use Rattle.tm_mentor.specs.declared.settings.Setting.{Setting}
 use Rattle.tm_mentor.specs.declared.settings.Setting.TheVariants.{Schedule, Events}
 use Rattle.tm_mentor.specs.declared.settings.Chosen.{Chosen}
-use Rattle.tm_mentor.specs.Words.{AreOption, AreSettings, Begins, IsAllowed, IsNumber, Spells, SpellsNoRun, SpellsRun, value_of, word_of}
-use Rattle.tm_mentor.specs.Choosing.{Chooses, Sets, chosen_with, rules_from}
-use Rattle.tm_mentor.proofs.Spelling.{AreSettings-next, BeginsWith, begins}
+use Rattle.tm_mentor.specs.CommandLine.{AreOption, AreSettings, Begins, IsAllowed, IsNumber, Spells, SpellsNoRun, SpellsRun, value_of, word_of}
+use Rattle.tm_mentor.specs.ChosenSettings.{Chooses, Sets, chosen_with, rules_from}
+use Rattle.tm_mentor.proofs.CommandLineLemmas.{AreSettings-next, BeginsWith, begins}
 use Rattle.tm_mentor.proofs.Setting.{chosen, once_sets, rules_are, sets_once}
 
 -- two words are an option and its number
@@ -43,7 +43,7 @@ cut (Schedule v) word n e = (ap (before_first is_sign) e, ap (after_first is_sig
 cut (Events v) word n e = (ap (before_first is_sign) e, ap (after_first is_sign) e)
 
 part : (word o n : List ℕ) (s : Setting) → o ≡ before_first is_sign word → n ≡ after_first is_sign word → Spells (word ∷ []) s → Spells (o ∷ n ∷ []) s
-part word o n s front back spelled =
+part word o n s prefix back spelled =
     let parts = cut s word spelled.number (one_word_by word (word_of s) spelled.number spelled.written) in
     record {
       number = spelled.number;
@@ -53,8 +53,8 @@ part word o n s front back spelled =
     }
 
 pub joined_by : (word o n : List ℕ) (r : Option Setting) → word ≡ o ++ (61 ∷ n) → o ≡ before_first is_sign word → n ≡ after_first is_sign word → MatchOption r ((s : Setting) → ¬ Spells (o ∷ n ∷ []) s) (λ s. Spells (o ∷ n ∷ []) s) → MatchOption r ((s : Setting) → ¬ Spells (word ∷ []) s) (λ s. Spells (word ∷ []) s)
-joined_by word o n None parts front back none = λ s spelled. none s (part word o n s front back spelled)
-joined_by word o n (Some s) parts front back spelled = join word o n s parts spelled
+joined_by word o n None parts prefix back none = λ s spelled. none s (part word o n s prefix back spelled)
+joined_by word o n (Some s) parts prefix back spelled = join word o n s parts spelled
 
 -- words begin with no setting where the first is none, and is none with the second
 no_begin_by : (w : List ℕ) (rest : List (List ℕ)) (s : Setting) (number : List ℕ) (back : List (List ℕ)) → ((s : Setting) → ¬ Spells (w ∷ []) s) → ((v : List ℕ) (others : List (List ℕ)) → rest ≡ v ∷ others → (s : Setting) → ¬ Spells (w ∷ v ∷ []) s) → IsNumber number (value_of s) → IsAllowed s → BeginsWith (w ∷ rest) (word_of s) number back → ⊥

@@ -1,8 +1,8 @@
 use Rattle.std.proofs.Common.{◌<◌, length, string_bytes, sym, arith}
 use Rattle.std.proofs.lemmas.List.{length-map}
 use Rattle.std.proofs.lemmas.Bool.Decides.{nat_tests}
-use Rattle.tm_mentor.proofs.Reading.{bytes_of, none_chosen, again, chosen_by}
-use Rattle.tm_mentor.proofs.words.+choices.Goals as goal
+use Rattle.tm_mentor.proofs.CommandLineReader.{bytes_of, none_chosen, again, chosen_by}
+use Rattle.tm_mentor.proofs.command_line.+choices.Goals as goal
 
 pub returns-in_err-setting : goal.returns-in_err-setting
 returns-in_err-setting t c =

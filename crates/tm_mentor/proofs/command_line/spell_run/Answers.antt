@@ -1,7 +1,7 @@
 use Rattle.std.proofs.Common.{◌≡◌, codes, string_bytes, sym, ◌∙◌}
 use Rattle.std.proofs.lemmas.Slice.Eq.{bytes_eq-Decides}
-use Rattle.tm_mentor.proofs.Reading.{alike, no_run, a_run}
-use Rattle.tm_mentor.proofs.words.spell_run.Goals as goal
+use Rattle.tm_mentor.proofs.CommandLineReader.{alike, no_run, a_run}
+use Rattle.tm_mentor.proofs.command_line.spell_run.Goals as goal
 
 pub returns-in_err-chosen : goal.returns-in_err-chosen
 returns-in_err-chosen c =

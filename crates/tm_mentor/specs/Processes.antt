@@ -1,0 +1,39 @@
+-- What a process is given, and the status that it ends with.
+use Rattle.std.specs.Prelude.{◌≡◌, ℕ, List, [], drop, Result, Ok, Err, ◌⊎◌, String}
+use Rattle.std.specs.Vec.Iter.{into_iter_items}
+use Rattle.std.specs.declared.alloc.Global.{Global}
+use Rattle.std.specs.declared.io.Error.{Error}
+use Rattle.std.specs.declared.vec.IntoIter.{IntoIter}
+use Rattle.tm_base.specs.declared.memory.NoMemory.{NoMemory}
+use Rattle.tm_session.specs.declared.runs.Finished.{Finished}
+use Rattle.tm_mentor.specs.declared.outcomes.Outcome.{Outcome}
+use Rattle.tm_mentor.specs.Outside.{Input, Output}
+use Rattle.tm_mentor.specs.Outcomes.{run_status, Runs, RunsNothing}
+
+-- The words of a command line: the arguments after the first, which is the program's name, in their
+-- order. Where the arguments could not be had there are none.
+abbrev pub words_of : Result (IntoIter (String Global) Global) Error → List (String Global)
+words_of (Ok arguments) = drop 1 (into_iter_items arguments)
+words_of (Err error) = []
+
+-- The status of a process: that of the command's outcome, or 9 where memory ran out before there were
+-- words.
+abbrev pub process_status : Result Outcome NoMemory → ℕ
+process_status (Ok outcome) = outcome.status
+process_status (Err error) = 9
+
+-- The command of these words was answered with this status: a run ended, or none did.
+abbrev pub IsAnswered : List (String Global) → Input → Input → Output → Output → ℕ → Type 0
+IsAnswered words read read' sent sent' status =
+    ((f : Finished) × Runs words read read' sent sent' f × (status ≡ run_status f)) ⊎ RunsNothing words read read' sent sent' status
+
+-- Memory ran out before there were words: nothing was read or written, and the status is 9.
+pub record IsWordless (read read' : Input) (sent sent' : Output) (status : ℕ) : Type 0 where
+  pub unread : read' ≡ read
+  pub unwritten : sent' ≡ sent
+  pub same : status ≡ 9
+
+-- A process with these words ended with this status: the command was answered, or memory ran out before
+-- there were words.
+abbrev pub EndsProcess : List (String Global) → Input → Input → Output → Output → ℕ → Type 0
+EndsProcess words read read' sent sent' status = IsAnswered words read read' sent sent' status ⊎ IsWordless read read' sent sent' status
