@@ -48,17 +48,27 @@ mod tests {
         let mut first = Ticket::make(1);
         let mut second = Ticket::make(2);
         book.make_room()?;
+        let _lock = book.enter(&mut first, Op::Lock);
+        book.make_room()?;
+        let _waiting = book.enter(&mut second, Op::Lock);
+        book.make_room()?;
+        assert_eq!(rt; book.enter(&mut first, Op::Unlock).reply, Reply::Gave(2));
+        let entry = book.finish(&mut second).ok_or("waits")?;
+        assert_eq!(rt; (entry.reply, entry.stamp), (Reply::Ok, 4));
+        Ok(())
+    }
+
+    #[test]
+    fn a_call_that_waits_is_not_finished(rt: HostRuntime) -> Result<(), Fail> {
+        let mut book = Book::make(rt.alloc(), 7, Kind::Mutex, 2)?;
+        let mut first = Ticket::make(1);
+        let mut second = Ticket::make(2);
+        book.make_room()?;
         assert_eq!(rt; book.enter(&mut first, Op::Lock).reply, Reply::Ok);
         book.make_room()?;
         assert_eq!(rt; book.enter(&mut second, Op::Lock).reply, Reply::Wait);
         assert!(rt; book.finish(&mut second).is_none());
-        book.make_room()?;
-        assert_eq!(rt; book.enter(&mut first, Op::Unlock).reply, Reply::Gave(2));
-        let entry = book.finish(&mut second).ok_or("waits")?;
-        assert_eq!(rt; entry.reply, Reply::Ok);
-        assert_eq!(rt; entry.stamp, 4);
-        assert_eq!(rt; book.last_stamp(), 4);
-        assert_eq!(rt; book.entries().len(), 4);
+        assert_eq!(rt; (book.last_stamp(), book.entries().len()), (2, 2));
         Ok(())
     }
 
@@ -75,12 +85,18 @@ mod tests {
             book.enter(&mut own, Op::End { cut: false }).reply,
             Reply::Ok
         );
+        assert_eq!(rt; (book.object(), book.spare()), (3, 1));
+        Ok(())
+    }
+
+    #[test]
+    fn a_book_is_stopped_once(rt: HostRuntime) -> Result<(), Fail> {
+        let mut book = Book::make(rt.alloc(), 7, Kind::Mutex, 1)?;
         let mut main = Ticket::make(0);
+        book.make_room()?;
         assert!(rt; book.stop(&mut main).is_some());
         assert!(rt; book.stop(&mut main).is_none());
         assert!(rt; book.machine().stopped());
-        assert_eq!(rt; book.object(), 3);
-        assert_eq!(rt; book.spare(), 1);
         Ok(())
     }
 }
