@@ -30,7 +30,8 @@ pub trait Machine {
     fn pending(&self, thread: u32) -> bool
         ensures { result ≡ is_pending (object self.now).state thread };
 
-    /// The granted reply of the thread's pending call. `None` exactly where the call still waits.
+    /// The granted reply of the thread's pending call. `None` only where the call still waits, and in a sound
+    /// object exactly there.
     fn poll(&self, thread: u32) -> Option<Reply>
         requires { is_pending (object self.now).state thread ≡ true }
         ensures value { result ≡ grant_of (object self.now).state thread }

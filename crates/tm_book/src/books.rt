@@ -41,8 +41,8 @@ impl Model for Book {
 }
 
 impl Book {
-    /// The book of an object of the kind before its first event, for threads 1 to `threads`, which
-    /// are at most `MOST_THREADS`. It has places for what the object owes at its start.
+    /// The book of an object of the kind before its first event, for threads 1 to `threads`, under the
+    /// conditions of `AnyMachine::make`. It has places for what the object owes at its start.
     pub fn make(alloc: Global, object: u32, kind: Kind, threads: u32) -> Result<Book, NoMemory>
         requires { CanMake kind threads }
         ensures object { IfOk result (λ book. book.object ≡ object) }

@@ -4,7 +4,7 @@ use Rattle.tm_base.specs.declared.operations.Op.{Op}
 use Rattle.tm_base.specs.declared.operations.Op.TheVariants as op
 use Rattle.tm_base.specs.States.{KindState, ThreadObjectState}
 
--- The own part of a thread object whose thread has begun. Objects of other kinds never begin.
+-- The state is that of a thread's object whose thread has begun. Objects of other kinds never begin.
 abbrev pub has_begun : KindState → Bool
 has_begun (ThreadObjectState started begun ended beginning joiners) = begun
 has_begun own = false

@@ -20,8 +20,8 @@ pub enum ReadFault {
 const LONGEST_READ: usize = 65536;
 
 /// Reads a source to its end, or to `limit + 1` bytes, for a limit below 2^63: so more than `limit`
-/// bytes say that the source has more than `limit`. `Failed` at the first read that fails, and nothing
-/// is read after it; `NoMemory` only where memory runs out. What was read is lost after a refusal, and
+/// bytes say that the source has more than `limit`. `Failed` at the first read that fails:
+/// exactly one did; `NoMemory` only where memory runs out. What was read is lost after a refusal, and
 /// is at most `limit + 1` bytes too.
 pub fn read_all<S: Source>(alloc: Global, source: &mut S, limit: u64) -> Result<Bytes, ReadFault>
     requires { limit < 2 ^ 63 }

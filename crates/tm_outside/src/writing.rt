@@ -4,8 +4,8 @@ ghost use Rattle.tm_outside.specs.Appending.{Appends, AppendsProperPrefix};
 
 use crate::{Failed, Sink};
 
-/// Writes the whole piece. `Failed` at the first write that fails, and nothing is written after it: a
-/// prefix of the piece was then written, and not all of it.
+/// Writes the whole piece. `Failed` at the first write that fails: exactly one did, and a prefix of the
+/// piece was written, and not all of it.
 pub fn write_all<K: Sink>(sink: &mut K, piece: &[u8]) -> Result<(), Failed>
     ensures ok { OnOk result (Appends (K.written sink.old) (K.written sink.new) piece.now) }
     ensures err { OnErr result (AppendsProperPrefix (K.written sink.old) (K.written sink.new) piece.now) }

@@ -96,7 +96,7 @@ impl WaitState {
         Some(head)
     }
 
-    /// A thread that doesn't stand in the queue is granted the reply.
+    /// The thread is granted the reply; the queue stays as it is.
     pub fn grant_to(&mut self, thread: u32, reply: Reply)
         requires { thread ≤ self.old.threads }
         ensures { self.new ≡ served self.old self.old.queue (slice_set self.old.granted thread (Some reply)) }

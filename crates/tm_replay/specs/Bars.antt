@@ -8,7 +8,7 @@ use Rattle.tm_replay.specs.declared.phases.Phase.{Phase}
 use Rattle.tm_replay.specs.declared.phases.Phase.TheVariants as phase
 use Rattle.tm_replay.specs.JointStates.{JointState, ThreadState, ObjectState}
 
--- Whether the thread's call waits ungranted at the place.
+-- Whether the thread's call waits ungranted at the object.
 abbrev pub waits_in : Option ObjectState → ℕ → Bool
 waits_in None t = false
 waits_in (Some b) t = is_waiting b.view.state t
@@ -54,7 +54,7 @@ is_over bars = list_all is_ended bars
 abbrev pub is_stuck : List Bar → Bool
 is_stuck bars = not (is_over bars) && list_all (λ b. not (is_runnable b)) bars
 
--- A call waits ungranted at the place.
+-- A call waits ungranted in these queues.
 abbrev pub is_some_queued : List ℕ → Bool
 is_some_queued [] = false
 is_some_queued (t ∷ ts) = true

@@ -11,6 +11,6 @@ use Rattle.tm_replay.specs.JointSteps.{IsJointRun}
 abbrev pub HasClosedPrefixes : List Entry → Type 0
 HasClosedPrefixes es = (prefix back : List Entry) → es ≡ prefix ++ back → IsClosed prefix es
 
--- The fronts of a joint run are closed.
+-- The prefixes of a joint run are closed.
 abbrev pub PrefixesAreClosed : Type 0
 PrefixesAreClosed = (x : ExerciseView) (es : List Entry) (j : JointState) → IsJointRun x es j → HasClosedPrefixes es

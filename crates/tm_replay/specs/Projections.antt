@@ -13,7 +13,7 @@ use Rattle.tm_replay.specs.JointSteps.{IsJointRun}
 abbrev pub label_at : ℕ → ObjectView → Label
 label_at o h = record { object = o; kind = h.kind; threads = h.threads }
 
--- How far the history of the object in the place has come.
+-- How far the object's history has come.
 abbrev pub history_state_at : ObjectState → HistoryState
 history_state_at b = record { at = b.at; stamp = b.stamp; state = b.view.state }
 

@@ -59,14 +59,14 @@ pub record CanPerform (j : JointState) (t : ℕ) (w : NextCall) : Type 0 where
   pub answers : CanAnswer object_state.view t w.op
   pub ready : IsReady (waits_of thread_state.phase) w.object w.op
 
--- The thread made the event that it wished; whether it may do it isn't said.
+-- The thread made the event of its next call; whether it may do it isn't said.
 pub record Performs (j : JointState) (t : ℕ) (w : NextCall) (e : Entry) (k : JointState) : Type 0 where
   pub by : e.thread ≡ t
   pub on : e.object ≡ w.object
   pub does : e.op ≡ w.op
   pub happens : Happens j e k
 
--- The call of a thread that waits at the place is pending there.
+-- The call of a thread that waits at the object is pending there.
 pub record IsPendingAt (j : JointState) (t object : ℕ) : Type 0 where
   pub object_state : ObjectState
   pub found : slice_get j.objects object ≡ Some object_state
