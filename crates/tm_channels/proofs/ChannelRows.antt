@@ -1,5 +1,5 @@
 -- In what order senders and receivers wait at a channel, after each row of its table.
-use Rattle.std.proofs.Common.{◌≡◌, ℕ, ℤ, ◌<◌, ◌≤◌, Bool, true, false, nat_lt, MatchBool, ◌⊎◌, inl, inr, ⊎_elim, List, [], ◌∷◌, ◌++◌, length, length-append, Option, refl, sym, ◌∙◌, subst, arith, ltb-true}
+use Rattle.std.proofs.Common.{◌≡◌, ℕ, ℤ, ◌<◌, ◌≤◌, Bool, true, false, nat_lt, MatchBool, ◌⊎◌, inl, inr, ⊎_elim, List, [], ◌∷◌, ◌++◌, length, length-append, Option, refl, sym, subst, arith, ltb-true}
 use Rattle.std.proofs.lemmas.Bool.{ltb-false}
 use Rattle.tm_base.specs.declared.operations.Op.{Op}
 use Rattle.tm_base.specs.declared.operations.Op.TheVariants as op
@@ -12,19 +12,13 @@ use Rattle.tm_base.specs.TableRows.{Gives, Allows, makes, queues}
 use Rattle.tm_base.specs.Synchronous.{sync_row}
 use Rattle.tm_base.specs.Asynchronous.{async_row}
 use Rattle.tm_laws.proofs.TableRowLemmas.{of_parts, either}
-use Rattle.tm_channels.specs.Deliveries.{sent_by}
-use Rattle.tm_channels.proofs.DeliveriesLemmas.{senders_of, values_of, AllSenders, Agrees, IsOrderly, values_of-push, none-sent, all-granted, left-none}
+use Rattle.tm_channels.proofs.DeliveriesLemmas.{IsOrderly}
 
 -- what holds of a channel: senders and receivers don't wait together
 abbrev pub Ordered : Kind → KindState → Type 0
 Ordered kind.Sync (SyncState senders receivers closed) = (senders ≡ []) ⊎ (receivers ≡ [])
 Ordered (kind.Async capacity) (AsyncState messages senders receivers closed) = IsOrderly capacity messages senders receivers
 Ordered k own = ⊥
-
--- no sender's call ends as a send where the channel has no room at all
-abbrev pub Unserved : Kind → (ℕ → Reply) → KindState → Type 0
-Unserved (kind.Async capacity) f own = capacity ≡ 0 → values_of f (senders_of own) ≡ []
-Unserved k f own = Unit {0}
 
 module _ (k : Kind) (r : Reply) (s' : State) where
   -- a row does what it does to the state that it names
@@ -61,10 +55,10 @@ sending-ordered : (capacity : ℕ) (messages : List ℤ) (senders : List (Waiter
 sending-ordered capacity messages senders g b t k r s' order true e h =
     let below : length messages < capacity = ltb-true (length messages) capacity e in
     let none : senders ≡ [] = ⊎_elim (λ (n : senders ≡ []). n) (λ (full : capacity ≤ length messages). absurd (omega arith)) order.full in
-    at_row (kind.Async capacity) r s' _ _ h (record { within = omega (arith, length-append messages (k ∷ [])); full = inl none; empty = inl refl })
+    at_row (kind.Async capacity) r s' _ _ h (record { room = order.room; within = omega (arith, length-append messages (k ∷ [])); full = inl none; empty = inl refl })
 sending-ordered capacity messages senders g b t k r s' order false e h =
     at_wait (kind.Async capacity) r s' (of_parts (AsyncState messages senders [] false) g b) (AsyncState messages (senders ++ record { thread = t; value = k } ∷ []) [] false)
-    order (record { within = order.within; full = inr (ltb-false (length messages) capacity e); empty = inl refl }) h
+    order (record { room = order.room; within = order.within; full = inr (ltb-false (length messages) capacity e); empty = inl refl }) h
 
 no_receivers : (m : ℤ) (messages : List ℤ) (receivers : List ℕ) {A : Type 0} → (receivers ≡ []) ⊎ (((m ∷ messages) ≡ []) × A) → receivers ≡ []
 no_receivers m messages receivers {A} h = ⊎_elim (λ (e : receivers ≡ []). e) (λ (e : ((m ∷ messages) ≡ []) × A). absurd (let f : (m ∷ messages) ≡ [] = e.0 in cc)) h
@@ -75,50 +69,25 @@ pub async_row-ordered : (capacity : ℕ) (messages : List ℤ) (senders : List (
     → Ordered (kind.Async capacity) s'.kind_state
 async_row-ordered capacity messages senders receivers true g b t (op.Send k) r s' order h = at_row (kind.Async capacity) r s' _ _ h order
 async_row-ordered capacity messages senders (u ∷ receivers) false g b t (op.Send k) r s' order h =
-    let empty : (messages ≡ []) × ((senders ≡ []) ⊎ (capacity ≡ 0)) =
-    ⊎_elim (λ (e : (u ∷ receivers) ≡ []). absurd cc) (λ (e : (messages ≡ []) × ((senders ≡ []) ⊎ (capacity ≡ 0))). e) order.empty in
-    at_row (kind.Async capacity) r s' _ _ h (record { within = order.within; full = order.full; empty = inr empty })
+    let empty : (messages ≡ []) × (senders ≡ []) = ⊎_elim (λ (e : (u ∷ receivers) ≡ []). absurd cc) (λ (e : (messages ≡ []) × (senders ≡ [])). e) order.empty in
+    at_row (kind.Async capacity) r s' _ _ h (record { room = order.room; within = order.within; full = order.full; empty = inr empty })
 async_row-ordered capacity messages senders [] false g b t (op.Send k) r s' order h = sending-ordered capacity messages senders g b t k r s' order (nat_lt (length messages) capacity) refl h
 async_row-ordered capacity (m ∷ messages) (w ∷ senders) receivers closed g b t op.Recv r s' order h =
     let full : capacity ≤ length (m ∷ messages) = ⊎_elim (λ (e : (w ∷ senders) ≡ []). absurd cc) (λ (e : capacity ≤ length (m ∷ messages)). e) order.full in
     at_row (kind.Async capacity) r s' _ _ h (record {
+      room = order.room;
       within = omega (arith, order.within, length-append messages (w.value ∷ []));
       full = inr (omega (arith, full, length-append messages (w.value ∷ [])));
       empty = inl (no_receivers m messages receivers order.empty);
     })
 async_row-ordered capacity (m ∷ messages) [] receivers closed g b t op.Recv r s' order h =
-    at_row (kind.Async capacity) r s' _ _ h (record { within = omega (arith, order.within); full = inl refl; empty = inl (no_receivers m messages receivers order.empty) })
+    at_row (kind.Async capacity) r s' _ _ h (record { room = order.room; within = omega (arith, order.within); full = inl refl; empty = inl (no_receivers m messages receivers order.empty) })
 async_row-ordered capacity [] senders receivers true g b t op.Recv r s' order h = at_row (kind.Async capacity) r s' _ _ h order
 async_row-ordered capacity [] senders receivers false g b t op.Recv r s' order h =
+    let none : senders ≡ [] = ⊎_elim (λ (n : senders ≡ []). n) (λ (e : capacity ≤ length {A = ℤ} []). absurd (omega (arith, e, order.room))) order.full in
     at_wait (kind.Async capacity) r s' (of_parts (AsyncState [] senders receivers false) g b) (AsyncState [] senders (receivers ++ t ∷ []) false) order
-    (record { within = order.within; full = order.full; empty = inr (refl, ⊎_elim (λ (none : senders ≡ []). inl none) (λ (e : capacity ≤ length {A = ℤ} []). inr (omega (arith, e))) order.full) }) h
+    (record { room = order.room; within = order.within; full = order.full; empty = inr (refl, none) }) h
 async_row-ordered capacity messages senders receivers true g b t op.Close r s' order h = at_row (kind.Async capacity) r s' _ _ h order
 async_row-ordered capacity messages senders receivers false g b t op.Close r s' order h =
-    at_row (kind.Async capacity) r s' _ _ h (record { within = order.within; full = inl refl; empty = inl refl })
+    at_row (kind.Async capacity) r s' _ _ h (record { room = order.room; within = order.within; full = inl refl; empty = inl refl })
 async_row-ordered capacity messages senders receivers closed g b t o r s' order h = elim h [ ]
-
--- senders that wait after a row waited before it, or were granted a reply that isn't one of a send
-module _ (f : ℕ → Reply) (r : Reply) (s' : State) (nothing : values_of f (senders_of s'.kind_state) ≡ []) where
-  before : (r0 : Reply) (next : State) → Gives r s' r0 next → values_of f (senders_of next.kind_state) ≡ []
-  before r0 next g = rw g.1 at nothing
-
-  before_wait : (s : State) (next : KindState) → (values_of f (senders_of next) ≡ [] → values_of f (senders_of s.kind_state) ≡ []) → Allows (queues next) s r s' → values_of f (senders_of s.kind_state) ≡ []
-  before_wait s next fewer h = either s.stopped (λ g. before reply.Stopped s g) (λ g. fewer (before reply.Wait _ g)) h
-
-  pub async_row-unserved : (messages : List ℤ) (senders : List (Waiter ℤ)) (receivers : List ℕ) (closed : Bool) (g : List (Option Reply)) (b : Bool) (t : ℕ) (o : Op)
-      → length messages ≤ 0 → AllSenders (λ u. u < length g) senders → Agrees f s'
-      → Allows (async_row 0 messages senders receivers closed t o) (of_parts (AsyncState messages senders receivers closed) g b) r s' → values_of f senders ≡ []
-  async_row-unserved messages senders receivers true g b t (op.Send k) within inside agrees h = before _ _ h
-  async_row-unserved messages senders (u ∷ receivers) false g b t (op.Send k) within inside agrees h = before _ _ h
-  async_row-unserved messages senders [] false g b t (op.Send k) within inside agrees h =
-      either (nat_lt (length messages) 0) (λ p. before _ (of_parts (AsyncState (messages ++ k ∷ []) senders [] false) g b) p)
-      (λ p. before_wait (of_parts (AsyncState messages senders [] false) g b) (AsyncState messages (senders ++ record { thread = t; value = k } ∷ []) [] false)
-      (λ none. left-none (values_of f senders) (sent_by (op.Send k) (f t)) (sym (values_of-push f senders t k) ∙ none)) p) h
-  async_row-unserved (m ∷ messages) senders receivers closed g b t op.Recv within inside agrees h = absurd (omega (arith, within))
-  async_row-unserved [] senders receivers true g b t op.Recv within inside agrees h = before _ _ h
-  async_row-unserved [] senders receivers false g b t op.Recv within inside agrees h =
-      before_wait (of_parts (AsyncState [] senders receivers false) g b) (AsyncState [] senders (receivers ++ t ∷ []) false) (λ none. none) h
-  async_row-unserved messages senders receivers true g b t op.Close within inside agrees h = before _ _ h
-  async_row-unserved messages senders receivers false g b t op.Close within inside agrees h =
-      none-sent f reply.Closed (λ k. refl) senders (all-granted f reply.Closed senders receivers (length g) g refl inside (λ u q e. agrees u q (rw h.1 e)))
-  async_row-unserved messages senders receivers closed g b t o within inside agrees h = elim h [ ]

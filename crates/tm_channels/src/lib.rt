@@ -29,8 +29,11 @@ pub fn reads_get_what_was_written()
     ensures { ReadsGetWhatWasWritten }
 {}
 
-/// In every legal history of a channel the values that were sent are, in one order, those that
-/// receivers were given and after them the messages that the channel keeps.
+/// In every legal history of a channel the values of all sends, in the order of their calls and
+/// without those that were answered or granted `closed` or `stopped`, are in one order those that
+/// receivers were given, and after them those on the way: the messages that the channel keeps, and
+/// then the values of the sends that still wait. An asynchronous channel has room for one message
+/// at least.
 pub fn channels_keep_order()
     ensures { ChannelsKeepOrder }
 {}
