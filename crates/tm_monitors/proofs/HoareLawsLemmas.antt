@@ -1,5 +1,6 @@
 -- Who comes inside a Hoare monitor by each of its events.
-use Rattle.std.proofs.Common.{nat_lt, ◌≡◌, ◌⊎◌, ℕ, ◌≤◌, Bool, true, ◌==◌, IsSomeAnd, inl, inr, ⊎_elim, List, [], ◌∷◌, ◌++◌, Option, None, Some, slice_get, slice_set, refl, ap, sym, ◌∙◌, subst, arith, eq-eqb, ne_eqb}
+use Rattle.std.proofs.Common.{nat_lt, ◌≡◌, ◌⊎◌, ℕ, ◌≤◌, Bool, true, false, ◌==◌, MatchBool, IsSomeAnd, inl, inr, ⊎_elim, List, [], ◌∷◌, ◌++◌, Option, None, Some, slice_get, slice_set, refl, ap, sym, ◌∙◌, subst, arith, eq-eqb, ne_eqb}
+use Rattle.std.proofs.lemmas.Bool.{eqb-true}
 use Rattle.std.proofs.lemmas.Bool.Decides.{nat_tests}
 use Rattle.std.proofs.lemmas.Option.{get_or_from_slice_get}
 use Rattle.tm_base.specs.declared.operations.Op.{Op}
@@ -10,7 +11,7 @@ use Rattle.tm_base.specs.declared.kinds.Kind.{Kind}
 use Rattle.tm_base.specs.declared.kinds.Kind.TheVariants as kind
 use Rattle.tm_base.specs.declared.events.Entry.{Entry}
 use Rattle.tm_base.specs.States.{KindState, State, MutexState, HoareState, all_of, emptied, is_pending, is_queued, queued, start_kind_state}
-use Rattle.tm_base.specs.TableRows.{Waits, Allows}
+use Rattle.tm_base.specs.TableRows.{Waits, Allows, Gives}
 use Rattle.tm_base.specs.Hoare.{hoare_handed_on, hoare_row, hoare_signal_row}
 use Rattle.tm_base.specs.Steps.{Step}
 use Rattle.tm_base.specs.Machines.{ObjectView}
@@ -24,6 +25,7 @@ use Rattle.tm_laws.proofs.TableRowLemmas.{of_parts, either, Leaves, Leaves-state
 use Rattle.tm_laws.proofs.Reaching.{Follows-moves, history-sound}
 use Rattle.tm_laws.proofs.RunsLemmas.{Leads-keeps}
 use Rattle.tm_laws.proofs.WaitersLemmas.{pending-known}
+use Rattle.tm_monitors.specs.MonitorQueues.{waiting_at}
 use Rattle.tm_monitors.specs.MonitorStates.{inside_of, urgent_of, oldest_at}
 use Rattle.tm_monitors.specs.HoareLaws.{HaveNoResumeOf, IsInsideUntilResumed, IsResumeOf, LetsNewestIn}
 
@@ -138,6 +140,61 @@ signal-step count (HoareState (Some i) entrance urgent conditions) g b t c s' h 
     either (i == t) (signal-row i entrance urgent conditions g b t c s' (slice_get conditions c) refl) (λ h. absurd (let f : reply.Wait ≡ reply.NotOwner = h.0 in cc)) h
 signal-step count own g b t c s' h = elim h [ ]
 
+-- whatever a signal is answered: it leaves inside whoever is inside, or it waits and lets in the oldest at the condition
+abbrev SignalLets : KindState → ℕ → Reply → State → Type 0
+SignalLets own c r s' = (inside_of s'.kind_state ≡ inside_of own) ⊎ ((r ≡ reply.Wait) × (inside_of s'.kind_state ≡ oldest_at own c))
+
+signal-row-lets : (i : ℕ) (entrance urgent : List ℕ) (conditions : List (List ℕ)) (g : List (Option Reply)) (b : Bool) (t c : ℕ) (r : Reply) (s' : State) (queue : Option (List ℕ)) → slice_get conditions c ≡ queue
+    → IsSomeAnd queue (λ waiting. Allows (hoare_signal_row entrance urgent conditions t c waiting) (of_parts (HoareState (Some i) entrance urgent conditions) g b) r s')
+    → SignalLets (HoareState (Some i) entrance urgent conditions) c r s'
+signal-row-lets i entrance urgent conditions g b t c r s' None e h = elim h [ ]
+signal-row-lets i entrance urgent conditions g b t c r s' (Some []) e h = inl (inside-by s' _ i h.1 refl)
+signal-row-lets i entrance urgent conditions g b t c r s' (Some (w ∷ rest)) e h =
+    let oldest : oldest_at (HoareState (Some i) entrance urgent conditions) c ≡ Some w = rw (get_or_from_slice_get conditions c (w ∷ rest) [] e) refl in
+    inr (h.0, inside-by s' _ w h.1 refl ∙ sym oldest)
+
+signal-step-lets : (count : ℕ) (own : KindState) (g : List (Option Reply)) (b : Bool) (t c : ℕ) (r : Reply) (s' : State) → Step (kind.Hoare count) (of_parts own g b) t (op.Signal c) r s' → SignalLets own c r s'
+signal-step-lets count (HoareState None entrance urgent conditions) g b t c r s' h = inl (ap (λ (s : State). inside_of s.kind_state) h.1)
+signal-step-lets count (HoareState (Some i) entrance urgent conditions) g b t c r s' h =
+    either (i == t) (signal-row-lets i entrance urgent conditions g b t c r s' (slice_get conditions c) refl) (λ h. inl (inside-by s' _ i h.1 refl)) h
+signal-step-lets count own g b t c r s' h = elim h [ ]
+
+-- a signal by the thread inside waits where somebody waits at the condition
+signal-row-waits : (entrance urgent : List ℕ) (conditions : List (List ℕ)) (s : State) (t c w : ℕ) (r : Reply) (s' : State) (queue : Option (List ℕ)) → slice_get conditions c ≡ queue
+    → slice_get (waiting_at conditions c) 0 ≡ Some w → IsSomeAnd queue (λ waiting. Allows (hoare_signal_row entrance urgent conditions t c waiting) s r s') → r ≡ reply.Wait
+signal-row-waits entrance urgent conditions s t c w r s' None e oldest h = elim h [ ]
+signal-row-waits entrance urgent conditions s t c w r s' (Some []) e oldest h =
+    let nobody : slice_get (waiting_at conditions c) 0 ≡ None = rw (get_or_from_slice_get conditions c [] [] e) refl in
+    absurd cc
+signal-row-waits entrance urgent conditions s t c w r s' (Some (x ∷ rest)) e oldest h = h.0
+
+signal-step-waits : (count : ℕ) (own : KindState) (g : List (Option Reply)) (b : Bool) (t c w : ℕ) (r : Reply) (s' : State) → inside_of own ≡ Some t → oldest_at own c ≡ Some w
+    → Step (kind.Hoare count) (of_parts own g b) t (op.Signal c) r s' → r ≡ reply.Wait
+signal-step-waits count (HoareState None entrance urgent conditions) g b t c w r s' inside oldest h = absurd cc
+signal-step-waits count (HoareState (Some i) entrance urgent conditions) g b t c w r s' inside oldest h =
+    let own : i ≡ t = cc in
+    let h = rw (eq-eqb i t own) at h in
+    signal-row-waits entrance urgent conditions (of_parts (HoareState (Some i) entrance urgent conditions) g b) t c w r s' (slice_get conditions c) refl oldest h
+signal-step-waits count own g b t c w r s' inside oldest h = elim h [ ]
+
+-- only the thread inside waits in a signal
+inside_by_test : (P : Type 0) (i t : ℕ) (s s' : State) (b : Bool) → (i == t) ≡ b → MatchBool b P (Gives reply.Wait s' reply.NotOwner s) → i ≡ t
+inside_by_test P i t s s' true e h = eqb-true i t e
+inside_by_test P i t s s' false e h = absurd (let f : reply.Wait ≡ reply.NotOwner = h.0 in cc)
+
+signal-step-inside : (count : ℕ) (own : KindState) (g : List (Option Reply)) (b : Bool) (t c : ℕ) (s' : State) → Step (kind.Hoare count) (of_parts own g b) t (op.Signal c) reply.Wait s' → inside_of own ≡ Some t
+signal-step-inside count (HoareState None entrance urgent conditions) g b t c s' h = absurd (let f : reply.Wait ≡ reply.NotOwner = h.0 in cc)
+signal-step-inside count (HoareState (Some i) entrance urgent conditions) g b t c s' h =
+    ap Some (inside_by_test _ i t (of_parts (HoareState (Some i) entrance urgent conditions) g b) s' (i == t) refl h)
+signal-step-inside count own g b t c s' h = elim h [ ]
+
+-- the event of a signal
+signal-call : (l : Label) (count : ℕ) (p : HistoryState) (e : Entry) (q : HistoryState) (c : ℕ) → l.kind ≡ kind.Hoare count → Follows l p e q → e.op ≡ op.Signal c
+    → Step (kind.Hoare count) p.state e.thread (op.Signal c) e.reply q.state
+signal-call l count p e q c its f does =
+    let call : Lawful (hoare_at count l.threads p.state) e.thread (op.Signal c) e.reply q.state = rw does at (of_hoare l count its p e.thread e.op e.reply q.state f.lawful) in
+    call.step
+
 pub signalled-inside : (l : Label) (count : ℕ) (es : List Entry) (p : HistoryState) (e : Entry) (q : HistoryState) (c : ℕ)
     → l.kind ≡ kind.Hoare count → IsHistory l es p → Follows l p e q → e.op ≡ op.Signal c → e.reply ≡ reply.Wait
     → (t : ℕ) × (oldest_at p.state.kind_state c ≡ Some t) × IsInsideUntilResumed l t q
@@ -150,6 +207,21 @@ signalled-inside l count es p e q c its run f does waits =
     let pending : is_pending p.state w ≡ true = rw signals.waited refl in
     let ne : w ≡ e.thread → ⊥ = λ same. cc (subst (λ (u : ℕ). is_pending p.state u ≡ true) same pending, call.may.free) in
     (w, signals.oldest, inside-until l count its w q (record { sound = moves.sound; inside = signals.inside; pending = rw (ne_eqb w e.thread ne) at (moves.pending w) ∙ pending }))
+
+pub waits-inside : (l : Label) (count : ℕ) (p : HistoryState) (e : Entry) (q : HistoryState) (c : ℕ) → l.kind ≡ kind.Hoare count → Follows l p e q → e.op ≡ op.Signal c → e.reply ≡ reply.Wait
+    → inside_of p.state.kind_state ≡ Some e.thread
+waits-inside l count p e q c its f does waits =
+    signal-step-inside count p.state.kind_state p.state.granted p.state.stopped e.thread c q.state (rw waits at (signal-call l count p e q c its f does))
+
+-- so where somebody waits the signal waits, and who is let in is that one
+pub signal-lets_in : (l : Label) (count : ℕ) (es : List Entry) (p : HistoryState) (e : Entry) (q : HistoryState) (c t : ℕ)
+    → l.kind ≡ kind.Hoare count → IsHistory l es p → Follows l p e q → inside_of p.state.kind_state ≡ Some e.thread → e.op ≡ op.Signal c → oldest_at p.state.kind_state c ≡ Some t
+    → (e.reply ≡ reply.Wait) × IsInsideUntilResumed l t q
+signal-lets_in l count es p e q c t its run f inside does oldest =
+    let waits : e.reply ≡ reply.Wait = signal-step-waits count p.state.kind_state p.state.granted p.state.stopped e.thread c t e.reply q.state inside oldest (signal-call l count p e q c its f does) in
+    let lets = signalled-inside l count es p e q c its run f does waits in
+    let same : lets.0 ≡ t = let both : Some lets.0 ≡ Some t = sym lets.1 ∙ oldest in cc in
+    (waits, subst (λ (u : ℕ). IsInsideUntilResumed l u q) same lets.2)
 
 -- a signaller waits only while somebody is inside
 abbrev IsOccupied : KindState → Type 0
@@ -269,7 +341,10 @@ pub newest-first : (l : Label) (count : ℕ) (es : List Entry) (p : HistoryState
 newest-first l count es p e q t urgent its run f stacked =
     let h = event-newest count l.threads p.state e.thread t urgent e.op e.reply q.state (history-occupied l count its es p run) stacked (of_hoare l count its p e.thread e.op e.reply q.state f.lawful) in
     record {
-      only = λ moved. ⊎_elim (λ (s : (c : ℕ) × (e.op ≡ op.Signal c)). inr s)
+      only = λ moved. ⊎_elim
+          (λ (s : (c : ℕ) × (e.op ≡ op.Signal c)). ⊎_elim (λ (same : inside_of q.state.kind_state ≡ inside_of p.state.kind_state). absurd (moved same))
+          (λ (lets : (e.reply ≡ reply.Wait) × (inside_of q.state.kind_state ≡ oldest_at p.state.kind_state s.0)). inr (s.0, s.1, lets.0, lets.1))
+          (signal-step-lets count p.state.kind_state p.state.granted p.state.stopped e.thread s.0 e.reply q.state (signal-call l count p e q s.0 its f s.1)))
           (λ (other : (c : ℕ) → e.op ≡ op.Signal c → ⊥). ⊎_elim (λ (same : inside_of q.state.kind_state ≡ inside_of p.state.kind_state). absurd (moved same)) (λ (in' : inside_of q.state.kind_state ≡ Some t). inl in') (h.only other)) (is_signal e.op);
       leave = h.leave;
       wait = h.wait;

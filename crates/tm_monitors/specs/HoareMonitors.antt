@@ -12,7 +12,11 @@ abbrev pub hoare_object : Inside → ObjectView
 hoare_object m = record {
   kind = kind.Hoare (length m.queues.conditions);
   threads = m.queues.threads;
-  state = record { kind_state = HoareState m.inside m.queues.entrance m.urgent.queue m.queues.conditions; granted = m.grants; stopped = m.stopped };
+  state = record {
+    kind_state = HoareState m.inside m.queues.entrance m.urgent.queue m.queues.conditions;
+    granted = m.grants;
+    stopped = m.stopped;
+  };
 }
 
 -- The stack is of the same threads as the queues, and each thread has a place for its granted reply.
@@ -32,4 +36,6 @@ next_in_hoare other = other
 
 -- The Hoare monitor after it was handed on to its heir, who is granted `ok`.
 abbrev pub hoare_after : ObjectView → ObjectView
-hoare_after h = changed h (granting h.state (next_in_hoare h.state.kind_state) (option_to_list (heir_in_hoare h.state.kind_state)) reply.Ok)
+hoare_after h =
+    let own = h.state.kind_state in
+    changed h (granting h.state (next_in_hoare own) (option_to_list (heir_in_hoare own)) reply.Ok)

@@ -10,5 +10,6 @@ use Rattle.tm_monitors.specs.MonitorStates.{inside_of}
 abbrev pub NotifyingLetsNobodyIn : Type 0
 NotifyingLetsNobodyIn =
     (l : Label) (count : ℕ) (es : List Entry) (p : HistoryState) (e : Entry) (q : HistoryState) (c : ℕ) →
-    l.kind ≡ kind.Mesa count → IsHistory l es p → Follows l p e q → (e.op ≡ op.Signal c) ⊎ (e.op ≡ op.Broadcast c) →
+    l.kind ≡ kind.Mesa count → IsHistory l es p → Follows l p e q →
+    (e.op ≡ op.Signal c) ⊎ (e.op ≡ op.Broadcast c) →
     inside_of q.state.kind_state ≡ inside_of p.state.kind_state

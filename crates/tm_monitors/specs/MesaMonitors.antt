@@ -12,7 +12,11 @@ abbrev pub mesa_object : Inside → ObjectView
 mesa_object m = record {
   kind = kind.Mesa (length m.queues.conditions);
   threads = m.queues.threads;
-  state = record { kind_state = MesaState m.inside m.queues.entrance m.queues.conditions; granted = m.grants; stopped = m.stopped };
+  state = record {
+    kind_state = MesaState m.inside m.queues.entrance m.queues.conditions;
+    granted = m.grants;
+    stopped = m.stopped;
+  };
 }
 
 -- Each thread has a place for its granted reply.
@@ -31,4 +35,6 @@ next_in_mesa other = other
 
 -- The Mesa monitor after it was handed on to its heir, who is granted `ok`.
 abbrev pub mesa_after : ObjectView → ObjectView
-mesa_after h = changed h (granting h.state (next_in_mesa h.state.kind_state) (option_to_list (heir_in_mesa h.state.kind_state)) reply.Ok)
+mesa_after h =
+    let own = h.state.kind_state in
+    changed h (granting h.state (next_in_mesa own) (option_to_list (heir_in_mesa own)) reply.Ok)

@@ -13,14 +13,18 @@ lists_of queues = map (λ q. q.queue) queues
 
 -- The queues that the fields stand for.
 abbrev pub queues_view : Inside → QueuesView
-queues_view l = record { threads = l.entrance.threads; entrance = l.entrance.queue; conditions = lists_of l.conditions.items }
+queues_view l = record {
+  threads = l.entrance.threads;
+  entrance = l.entrance.queue;
+  conditions = lists_of l.conditions.items;
+}
 
 -- Each thread stands in the queue once where its flag says so, and else never.
 pub record AreTold (queue : List ℕ) (flags : List Bool) : Type 0 where
   pub count : (t : ℕ) → count_in queue t ≡ bit (slice_index_or flags t false)
 
--- All queues are of the same threads; each thread has a flag that says whether it stands in a queue; and it stands in
--- one of them at most, once.
+-- All queues are of the same threads; each thread has a flag that says whether it stands in a queue; and it
+-- stands in one of them at most, once.
 pub record KeepsQueues (l : Inside) : Type 0 where
   pub few : length l.conditions.items ≤ 255
   pub alike : All (λ q. q.threads ≡ l.entrance.threads) l.conditions.items

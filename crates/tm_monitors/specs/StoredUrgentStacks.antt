@@ -10,8 +10,8 @@ use Rattle.tm_monitors.specs.declared.urgent_stacks.UrgentStack.TheInside.{Insid
 abbrev pub stack_view : Inside → QueueView
 stack_view l = record { threads = l.threads; queue = l.stack.items }
 
--- There are few threads, each at most once on the stack; there is room for all of them; and each has a place that
--- says whether it stands there.
+-- There are few threads, each at most once on the stack; there is room for all of them; and each has a
+-- place that says whether it stands there.
 pub record KeepsStack (l : Inside) : Type 0 where
   pub few : l.threads ≤ MOST_THREADS
   pub stack : IsQueue l.threads l.stack.items

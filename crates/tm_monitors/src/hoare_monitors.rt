@@ -10,8 +10,8 @@ use std::marker::Model;
 use tm_base::{Kind, MOST_THREADS, Machine, NoMemory, Op, Reply};
 use tm_queues::Grants;
 
-/// The monitor of Hoare: one thread inside, and a signal that lets a waiter in at once, while the signaller waits on the
-/// urgent stack. Contracts see it as the object that it is.
+/// The monitor of Hoare: one thread inside, and a signal that lets a waiter in at once, while the signaller
+/// waits on the urgent stack. Contracts see it as the object that it is.
 #[derive(Drop)]
 pub struct HoareM {
     inside: Option<u32>,
@@ -34,8 +34,8 @@ impl Model for HoareM {
 }
 
 impl HoareM {
-    /// A monitor with nobody inside and so many conditions, numbered from 0, for threads 1 to `threads`, which are at
-    /// most `MOST_THREADS`. Nothing later takes memory.
+    /// A monitor with nobody inside and so many conditions, numbered from 0, for threads 1 to `threads`,
+    /// which are at most `MOST_THREADS`. Nothing later takes memory.
     pub fn make(alloc: Global, threads: u32, conditions: u8) -> Result<HoareM, NoMemory>
         requires { threads ≤ MOST_THREADS }
         ensures { IfOk result (λ monitor. monitor ≡ fresh (Kind.Hoare conditions) threads) }
@@ -63,7 +63,8 @@ impl HoareM {
         }
     }
 
-    /// Lets the newest signaller in, or the oldest at the entrance where no signaller waits, or frees the monitor.
+    /// Lets the newest signaller in, or the oldest at the entrance where no signaller waits, or frees the
+    /// monitor.
     fn hand_on(&mut self)
         ensures { self.new ≡ hoare_after self.old }
     {

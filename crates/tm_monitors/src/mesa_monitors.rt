@@ -9,8 +9,8 @@ use std::marker::Model;
 use tm_base::{Kind, MOST_THREADS, Machine, NoMemory, Op, Reply};
 use tm_queues::Grants;
 
-/// The monitor of Mesa: one thread inside, and a signal that only lets a waiter come to the entrance again. Contracts
-/// see it as the object that it is.
+/// The monitor of Mesa: one thread inside, and a signal that only lets a waiter come to the entrance again.
+/// Contracts see it as the object that it is.
 #[derive(Drop)]
 pub struct MesaM {
     inside: Option<u32>,
@@ -32,8 +32,8 @@ impl Model for MesaM {
 }
 
 impl MesaM {
-    /// A monitor with nobody inside and so many conditions, numbered from 0, for threads 1 to `threads`, which are at
-    /// most `MOST_THREADS`. Nothing later takes memory.
+    /// A monitor with nobody inside and so many conditions, numbered from 0, for threads 1 to `threads`,
+    /// which are at most `MOST_THREADS`. Nothing later takes memory.
     pub fn make(alloc: Global, threads: u32, conditions: u8) -> Result<MesaM, NoMemory>
         requires { threads ≤ MOST_THREADS }
         ensures { IfOk result (λ monitor. monitor ≡ fresh (Kind.Mesa conditions) threads) }

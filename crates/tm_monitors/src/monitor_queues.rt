@@ -1,7 +1,18 @@
 ghost use Rattle.std.specs.Prelude.{◌≡◌, ◌≤◌, ◌<◌, ◌+◌, ◌*◌, ◌++◌, ◌∷◌, [], false, length, replicate, IfOk, IfSome, MatchOption, slice_get};
 ghost use Rattle.std.specs.List.{All};
 ghost use Rattle.tm_base.specs.States.{all_of, grant_all, is_queued};
-ghost use Rattle.tm_monitors.specs.MonitorQueues.{AreLeftBy, IsFirstAt, all_notified, all_queued, empty_queues, notified, waiting_at, with_condition, with_entrance, without_conditions};
+ghost use Rattle.tm_monitors.specs.MonitorQueues.{
+  AreLeftBy,
+  IsFirstAt,
+  all_notified,
+  all_queued,
+  empty_queues,
+  notified,
+  waiting_at,
+  with_condition,
+  with_entrance,
+  without_conditions,
+};
 ghost use Rattle.tm_monitors.specs.StoredMonitorQueues.{lists_of};
 
 use std::alloc::Global;
@@ -9,8 +20,9 @@ use std::marker::Model;
 use tm_base::{MOST_THREADS, NoMemory, Reply};
 use tm_queues::{Grants, WaitQueue};
 
-/// The queues of a monitor: its entrance, and one for each of its conditions, numbered from 0. A thread stands in one
-/// of them at most, once. Contracts see how many threads there are, and who stands in each queue, the oldest first.
+/// The queues of a monitor: its entrance, and one for each of its conditions, numbered from 0. A thread
+/// stands in one of them at most, once. Contracts see how many threads there are, and who stands in each
+/// queue, the oldest first.
 #[derive(Drop)]
 pub struct MonitorQueues {
     entrance: WaitQueue,
@@ -46,8 +58,8 @@ fn empty_conditions(alloc: Global, threads: u32, count: u8) -> Result<Vec<WaitQu
 }
 
 impl MonitorQueues {
-    /// The empty queues of so many conditions, for threads 0 to `threads`, which are at most `MOST_THREADS`. Nothing
-    /// later takes memory.
+    /// The empty queues of so many conditions, for threads 0 to `threads`, which are at most
+    /// `MOST_THREADS`. Nothing later takes memory.
     #[tactic(auto, using(crate::proofs::MonitorQueuesLemmas::empty_steps))]
     pub fn make(alloc: Global, threads: u32, conditions: u8) -> Result<MonitorQueues, NoMemory>
         requires { threads ≤ MOST_THREADS }
@@ -89,7 +101,8 @@ impl MonitorQueues {
 
     /// The oldest at the entrance leaves it. `None` exactly where nobody stands there.
     pub fn admit(&mut self) -> Option<u32>
-        ensures oldest { MatchOption result ((self.old.entrance ≡ []) × (self.new ≡ self.old)) (λ head. self.old ≡ with_entrance self.new (head ∷ self.new.entrance)) }
+        ensures oldest { MatchOption result ((self.old.entrance ≡ []) × (self.new ≡ self.old))
+            (λ head. self.old ≡ with_entrance self.new (head ∷ self.new.entrance)) }
         ensures known { IfSome result (λ head. head ≤ self.old.threads) }
     {
         let head = self.entrance.pop()?;
@@ -102,7 +115,8 @@ impl MonitorQueues {
         requires there { condition < length self.old.conditions }
         requires known { thread ≤ self.old.threads }
         requires new { is_queued (all_queued self.old) thread ≡ false }
-        ensures { self.new ≡ with_condition self.old condition (waiting_at self.old.conditions condition ++ thread ∷ []) }
+        ensures { self.new
+            ≡ with_condition self.old condition (waiting_at self.old.conditions condition ++ thread ∷ []) }
     {
         self.conditions[condition as usize].push(thread);
         self.waits[thread as usize] = true;

@@ -118,8 +118,8 @@ fn a_mesa_broadcast_moves_all_that_wait(rt: HostRuntime) -> Result<(), Fail> {
     Ok(())
 }
 
-/// Nobody waits at a stopped monitor: each call that waited was granted `Stopped`, and each that would wait is answered
-/// so; all else goes on as before.
+/// Nobody waits at a stopped monitor: each call that waited was granted `Stopped`, and each that would wait
+/// is answered so; all else goes on as before.
 fn goes_on_when_stopped<M: Machine>(rt: &impl Abort, monitor: &mut M)
     requires { (M.object monitor.old).threads ≡ 3 }
     ensures { (M.object monitor.new).threads ≡ 3 }

@@ -8,8 +8,8 @@ use std::marker::Model;
 use tm_base::{MOST_THREADS, NoMemory, Reply};
 use tm_queues::Grants;
 
-/// The stack of the signallers that wait in a Hoare monitor, last in, first out, on which no thread stands twice.
-/// Contracts see how many threads there are and who stands on it, the newest first.
+/// The stack of the signallers that wait in a Hoare monitor, last in, first out, on which no thread stands
+/// twice. Contracts see how many threads there are and who stands on it, the newest first.
 #[derive(Drop)]
 pub struct UrgentStack {
     threads: u32,
@@ -31,7 +31,8 @@ impl Model for UrgentStack {
 }
 
 impl UrgentStack {
-    /// The empty stack of threads 0 to `threads`, which are at most `MOST_THREADS`. Nothing later takes memory.
+    /// The empty stack of threads 0 to `threads`, which are at most `MOST_THREADS`. Nothing later takes
+    /// memory.
     pub fn make(alloc: Global, threads: u32) -> Result<UrgentStack, NoMemory>
         requires { threads ≤ MOST_THREADS }
         ensures { IfOk result (λ stack. stack ≡ empty_queue threads) }
@@ -58,7 +59,8 @@ impl UrgentStack {
 
     /// The newest leaves the stack. `None` exactly where nobody stands on it.
     pub fn pop(&mut self) -> Option<u32>
-        ensures newest { MatchOption result ((self.old.queue ≡ []) × (self.new ≡ self.old)) (λ top. self.old ≡ record self.new { queue = top ∷ self.new.queue }) }
+        ensures newest { MatchOption result ((self.old.queue ≡ []) × (self.new ≡ self.old))
+            (λ top. self.old ≡ record self.new { queue = top ∷ self.new.queue }) }
         ensures known { IfSome result (λ top. top ≤ self.old.threads) }
     {
         let top = self.stack.pop_front()?;
