@@ -1,6 +1,6 @@
 -- What one event does to the value of a semaphore, and what a whole history does.
-use Rattle.std.proofs.Common.{◌≡◌, ℕ, ◌+◌, ◌<◌, ◌≤◌, ◌==◌, ◌||◌, nat_lt, Bool, true, cond, List, [], ◌∷◌, length, Option, Some, None, refl, ap, sym, subst, arith, ltb-true, eq-eqb, get_or-set_same}
-use Rattle.std.proofs.lemmas.Bool.{eqb-false}
+use Rattle.std.proofs.Common.{◌≡◌, ℕ, ◌+◌, ◌<◌, ◌≤◌, ◌==◌, ◌||◌, nat_lt, Bool, true, ⊎_elim, cond, List, [], ◌∷◌, length, Option, Some, None, slice_index_or, slice_set, refl, ap, sym, ◌∙◌, subst, arith, ltb-true, eq-eqb, get_or-set_same, get_or-set_other}
+use Rattle.std.proofs.lemmas.Bool.{cases_eq, eqb-false}
 use Rattle.std.proofs.lemmas.List.Sums.{sum_by-cons}
 use Rattle.tm_base.specs.declared.operations.Op.{Op}
 use Rattle.tm_base.specs.declared.operations.Op.TheVariants as op
@@ -20,8 +20,9 @@ use Rattle.tm_base.specs.Histories.{Label, HistoryState, Follows, IsHistory, Law
 use Rattle.tm_laws.proofs.TableRowLemmas.{of_parts, either}
 use Rattle.tm_laws.proofs.RunsLemmas.{Leads-keeps}
 use Rattle.tm_laws.proofs.Reaching.{history-sound}
-use Rattle.tm_laws.proofs.WaitersLemmas.{waiting-known}
+use Rattle.tm_laws.proofs.WaitersLemmas.{waiting-known, waiting-ungranted}
 use Rattle.tm_locks.proofs.RowChoices.{by_test}
+use Rattle.tm_locks.proofs.ServedWaiters.{served-by_step, ungranted}
 use Rattle.tm_locks.specs.Balance.{IsServed, value_of, completes_v, completes_p, completed_vs, completed_ps}
 
 -- one more where the test passes
@@ -71,6 +72,25 @@ V-serves start (SemState value []) g b t heir s' h =
     either (value == GREATEST_SEMAPHORE_VALUE) (λ g. absurd (let e : reply.Gave heir ≡ reply.Full = g.0 in cc)) (λ g. absurd (let e : reply.Gave heir ≡ reply.Ok = g.0 in cc)) h
 V-serves start own g b t heir s' h = elim h [ ]
 
+-- and nothing but such a V grants `ok` to a thread that was granted nothing
+sem_row-serves : (value : ℕ) (queue : List ℕ) (g : List (Option Reply)) (b : Bool) (t u : ℕ) (o : Op) (r : Reply) (s' : State) → slice_index_or g u None ≡ None → grant_of s' u ≡ Some reply.Ok
+    → Allows (sem_row value queue t o) (of_parts (SemState value queue) g b) r s' → (o ≡ op.V) × (r ≡ reply.Gave u)
+sem_row-serves value queue g b t u op.P r s' none had h =
+    either (nat_lt 0 value) (λ k. ungranted g u s' _ none refl had k.1) (λ k. either b (λ k. ungranted g u s' _ none refl had k.1) (λ k. ungranted g u s' _ none refl had k.1) k) h
+sem_row-serves value queue g b t u op.TryP r s' none had h =
+    either (nat_lt 0 value) (λ k. ungranted g u s' _ none refl had k.1) (λ k. ungranted g u s' _ none refl had k.1) h
+sem_row-serves value (w ∷ queue) g b t u op.V r s' none had h = ⊎_elim
+    (λ (same : w ≡ u). (refl, h.0 ∙ ap (λ (x : ℕ). reply.Gave x) same))
+    (λ (ne : w ≡ u → ⊥). ungranted (slice_set g w (Some reply.Ok)) u s' _ (get_or-set_other g w u (Some reply.Ok) None (λ e. ne (sym e)) ∙ none) refl had h.1) (cases_eq w u)
+sem_row-serves value [] g b t u op.V r s' none had h =
+    either (value == GREATEST_SEMAPHORE_VALUE) (λ k. ungranted g u s' _ none refl had k.1) (λ k. ungranted g u s' _ none refl had k.1) h
+sem_row-serves value queue g b t u o r s' none had h = elim h [ ]
+
+Step-serves : (start : ℕ) (own : KindState) (g : List (Option Reply)) (b : Bool) (t u : ℕ) (o : Op) (r : Reply) (s' : State) → slice_index_or g u None ≡ None → grant_of s' u ≡ Some reply.Ok
+    → Step (kind.Sem start) (of_parts own g b) t o r s' → (o ≡ op.V) × (r ≡ reply.Gave u)
+Step-serves start (SemState value queue) g b t u o r s' none had h = sem_row-serves value queue g b t u o r s' none had h
+Step-serves start own g b t u o r s' none had h = elim h [ ]
+
 emptied-value : (own : KindState) → value_of (emptied own) ≡ value_of own
 emptied-value (MutexState owner queue) = refl
 emptied-value own = refl
@@ -115,6 +135,12 @@ module _ (l : Label) (start : ℕ) (its : l.kind ≡ kind.Sem start) where
   history-small es p run small =
       Leads-keeps (Follows l) (λ (p : HistoryState). value_of p.state.kind_state ≤ GREATEST_SEMAPHORE_VALUE) (λ p e q k f. (Follows-weighs p e q f).small k) es (first_history_state l) p
       (subst (λ (n : ℕ). n ≤ GREATEST_SEMAPHORE_VALUE) (sym starts) small) run
+
+  pub history-served : (es : List Entry) (p q : HistoryState) (e : Entry) (t : ℕ) → IsHistory l es p → Follows l p e q → IsServed t p.state q.state → (e.op ≡ op.V) × (e.reply ≡ reply.Gave t)
+  history-served es p q e t run f served =
+      let tidy = (history-sound l es p run).tidy in
+      let step = served-by_step (kind.Sem start) l.threads p.state e.thread t e.op e.reply q.state tidy served.waited served.granted (as_sem p.state e.thread e.op e.reply q.state f.lawful) in
+      Step-serves start p.state.kind_state p.state.granted p.state.stopped e.thread t e.op e.reply q.state (waiting-ungranted l.threads p.state tidy t served.waited) served.granted step
 
   pub history-serves : (es : List Entry) (p q : HistoryState) (e : Entry) (heir : ℕ) → IsHistory l es p → Follows l p e q → e.op ≡ op.V → e.reply ≡ reply.Gave heir → IsServed heir p.state q.state
   history-serves es p q e heir run f o r =

@@ -1,4 +1,5 @@
 pub mod RowChoices
+pub mod ServedWaiters
 pub mod BalanceLemmas
 pub mod OpeningLemmas
 pub mod ReadersLemmas

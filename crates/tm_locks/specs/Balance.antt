@@ -40,13 +40,15 @@ completed_ps es = count_by (λ e. completes_p e.op e.reply) es
 -- completed V's are.
 abbrev pub SemaphoreBalance : Type 0
 SemaphoreBalance =
-    (l : Label) (start : ℕ) (es : List Entry) (p : HistoryState) → l.kind ≡ kind.Sem start → IsHistory l es p →
+    (l : Label) (start : ℕ) (es : List Entry) (p : HistoryState) →
+    l.kind ≡ kind.Sem start → IsHistory l es p →
     value_of p.state.kind_state + completed_ps es ≡ start + completed_vs es
 
 -- After every legal history the value is at most the greatest one, where the start value is.
 abbrev pub SemaphoreValuesAreSmall : Type 0
 SemaphoreValuesAreSmall =
-    (l : Label) (start : ℕ) (es : List Entry) (p : HistoryState) → l.kind ≡ kind.Sem start → IsHistory l es p →
+    (l : Label) (start : ℕ) (es : List Entry) (p : HistoryState) →
+    l.kind ≡ kind.Sem start → IsHistory l es p →
     start ≤ GREATEST_SEMAPHORE_VALUE → value_of p.state.kind_state ≤ GREATEST_SEMAPHORE_VALUE
 
 -- The thread's call waited, and now it is granted `ok`.
@@ -57,5 +59,13 @@ pub record IsServed (t : ℕ) (before after : State) : Type 0 where
 -- Whenever a V is answered `gave`, the thread that the reply names is served.
 abbrev pub VsServeWaiters : Type 0
 VsServeWaiters =
-    (l : Label) (start : ℕ) (es : List Entry) (p q : HistoryState) (e : Entry) (heir : ℕ) → l.kind ≡ kind.Sem start →
-    IsHistory l es p → Follows l p e q → e.op ≡ op.V → e.reply ≡ reply.Gave heir → IsServed heir p.state q.state
+    (l : Label) (start : ℕ) (es : List Entry) (p q : HistoryState) (e : Entry) (heir : ℕ) →
+    l.kind ≡ kind.Sem start → IsHistory l es p → Follows l p e q →
+    e.op ≡ op.V → e.reply ≡ reply.Gave heir → IsServed heir p.state q.state
+
+-- And whenever a thread is served, the event is a V that is answered `gave` and names it.
+abbrev pub OnlyVsServeWaiters : Type 0
+OnlyVsServeWaiters =
+    (l : Label) (start : ℕ) (es : List Entry) (p q : HistoryState) (e : Entry) (t : ℕ) →
+    l.kind ≡ kind.Sem start → IsHistory l es p → Follows l p e q →
+    IsServed t p.state q.state → (e.op ≡ op.V) × (e.reply ≡ reply.Gave t)

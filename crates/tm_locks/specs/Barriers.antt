@@ -9,5 +9,9 @@ abbrev pub barrier_object : Inside → ObjectView
 barrier_object m = record {
   kind = kind.Barrier m.parties;
   threads = m.waiting.threads;
-  state = record { kind_state = BarrierState m.waiting.queue; granted = m.waiting.granted; stopped = m.waiting.stopped };
+  state = record {
+    kind_state = BarrierState m.waiting.queue;
+    granted = m.waiting.granted;
+    stopped = m.waiting.stopped;
+  };
 }

@@ -21,12 +21,16 @@ waiters_of (RwState readers writer queue) = queue
 waiters_of own = []
 
 -- There is no reader, or no writer; while a reader is inside, the oldest that waits wants to write; and
--- while a thread waits, another one is inside.
+-- while a thread waits, somebody is inside.
 pub record IsExclusive (own : KindState) : Type 0 where
   pub apart : (readers_of own ≡ []) ⊎ (writer_of own ≡ None)
-  pub next_writes : readers_of own ≢ [] → (oldest : Waiter Bool) → slice_get (waiters_of own) 0 ≡ Some oldest → oldest.value ≡ true
+  pub next_writes :
+      readers_of own ≢ [] → (oldest : Waiter Bool) → slice_get (waiters_of own) 0 ≡ Some oldest →
+      oldest.value ≡ true
   pub in_use : waiters_of own ≢ [] → (readers_of own ≢ []) ⊎ (writer_of own ≢ None)
 
 -- After every legal history a reader-writer lock is such.
 abbrev pub ReaderWriterExclusion : Type 0
-ReaderWriterExclusion = (l : Label) (es : List Entry) (p : HistoryState) → l.kind ≡ kind.Rw → IsHistory l es p → IsExclusive p.state.kind_state
+ReaderWriterExclusion =
+    (l : Label) (es : List Entry) (p : HistoryState) →
+    l.kind ≡ kind.Rw → IsHistory l es p → IsExclusive p.state.kind_state

@@ -9,5 +9,9 @@ abbrev pub mutex_object : Inside → ObjectView
 mutex_object m = record {
   kind = kind.Mutex;
   threads = m.waiting.threads;
-  state = record { kind_state = MutexState m.owner m.waiting.queue; granted = m.waiting.granted; stopped = m.waiting.stopped };
+  state = record {
+    kind_state = MutexState m.owner m.waiting.queue;
+    granted = m.waiting.granted;
+    stopped = m.waiting.stopped;
+  };
 }

@@ -19,7 +19,8 @@ oldest_of queue = slice_get queue 0
 -- and that hands the mutex to the oldest waiter, or to nobody where none waits.
 pub record MovesFrom (owner : ℕ) (before : State) (e : Entry) (after : State) : Type 0 where
   pub only : owner_of after.kind_state ≢ Some owner → (e.op ≡ op.Unlock) × (e.thread ≡ owner)
-  pub heir : e.op ≡ op.Unlock → e.thread ≡ owner → owner_of after.kind_state ≡ oldest_of (queued before.kind_state)
+  pub heir :
+      e.op ≡ op.Unlock → e.thread ≡ owner → owner_of after.kind_state ≡ oldest_of (queued before.kind_state)
 
 -- After every legal history of a mutex that some thread then owns, every next event is such an event.
 abbrev pub OwnershipMoves : Type 0

@@ -15,7 +15,11 @@ abbrev pub lock_object : Inside → ObjectView
 lock_object m = record {
   kind = kind.Rw;
   threads = m.readers.threads;
-  state = record { kind_state = RwState m.readers.queue m.writer m.queue.queue; granted = m.grants; stopped = m.stopped };
+  state = record {
+    kind_state = RwState m.readers.queue m.writer m.queue.queue;
+    granted = m.grants;
+    stopped = m.stopped;
+  };
 }
 
 -- Both queues have places for the same threads, and so have the granted replies; and no thread stands

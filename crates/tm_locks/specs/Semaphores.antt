@@ -11,7 +11,11 @@ abbrev pub sem_object : Inside → ObjectView
 sem_object m = record {
   kind = kind.Sem m.start;
   threads = m.waiting.threads;
-  state = record { kind_state = SemState m.value m.waiting.queue; granted = m.waiting.granted; stopped = m.waiting.stopped };
+  state = record {
+    kind_state = SemState m.value m.waiting.queue;
+    granted = m.waiting.granted;
+    stopped = m.waiting.stopped;
+  };
 }
 
 -- The value isn't above the greatest one.

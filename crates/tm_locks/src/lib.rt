@@ -1,9 +1,14 @@
 //! Locks as textbooks define them.
 #![tactic(auto)]
 
-ghost use Rattle.tm_locks.specs.Balance.{SemaphoreBalance, SemaphoreValuesAreSmall, VsServeWaiters};
+ghost use Rattle.tm_locks.specs.Balance.{
+  OnlyVsServeWaiters,
+  SemaphoreBalance,
+  SemaphoreValuesAreSmall,
+  VsServeWaiters,
+};
 ghost use Rattle.tm_locks.specs.Exclusion.{ReaderWriterExclusion};
-ghost use Rattle.tm_locks.specs.Opening.{BarrierOpening};
+ghost use Rattle.tm_locks.specs.Opening.{BarrierOpening, OnlyTheLastOpens, OpeningNeedsItsParties};
 ghost use Rattle.tm_locks.specs.Ownership.{OwnershipMoves};
 
 mod barriers;
@@ -39,14 +44,19 @@ pub fn semaphore_values_are_small()
 {}
 
 /// In every legal history of a semaphore the thread that a V gives to has waited, and is granted `Ok`.
+/// A thread that waits is granted `Ok` by no other event.
 pub fn waiters_of_semaphores_are_served()
-    ensures { VsServeWaiters }
+    ensures served { VsServeWaiters }
+    ensures only { OnlyVsServeWaiters }
 {}
 
 /// In every legal history of a barrier an `arrive` that is answered `Last` comes when those that wait are
-/// one fewer than the parties. Each of them is granted `Ok`, and nobody waits then.
+/// one fewer than the parties. Each of them is granted `Ok`, and nobody waits then. By no other event is
+/// a thread that waits granted `Ok`. Where there are more parties than threads, no event is answered `Last`.
 pub fn barrier_opening()
-    ensures { BarrierOpening }
+    ensures opens { BarrierOpening }
+    ensures only { OnlyTheLastOpens }
+    ensures needs_parties { OpeningNeedsItsParties }
 {}
 
 /// In every state of a legal history of a reader-writer lock there is no reader or no writer inside. While

@@ -24,8 +24,8 @@ impl Model for MutexM {
 }
 
 impl MutexM {
-    /// A mutex that nobody owns, for threads 1 to `threads`, which are at most `MOST_THREADS`. Nothing later takes
-    /// memory.
+    /// A mutex that nobody owns, for threads 1 to `threads`, which are at most `MOST_THREADS`. Nothing
+    /// later takes memory.
     pub fn make(alloc: Global, threads: u32) -> Result<MutexM, NoMemory>
         requires { threads ≤ MOST_THREADS }
         ensures { IfOk result (λ mutex. mutex ≡ fresh Kind.Mutex threads) }

@@ -32,7 +32,10 @@ fn pass_by(queue: &mut WaitQueue, thread: u32)
 
 /// The oldest thread leaves the queue where it wants to read. `None` leaves all unchanged.
 fn next_reader(queue: &mut ValuedQueue<bool>) -> Option<u32>
-    ensures oldest { MatchOption result ((first_readers queue.old.queue ≡ []) × (after_readers queue.old.queue ≡ queue.old.queue) × (queue.new ≡ queue.old)) (λ thread. queue.old.queue ≡ (record { thread = thread; value = false }) ∷ queue.new.queue) }
+    ensures oldest { MatchOption result
+        ((first_readers queue.old.queue ≡ []) × (after_readers queue.old.queue ≡ queue.old.queue)
+        × (queue.new ≡ queue.old))
+        (λ thread. queue.old.queue ≡ (record { thread = thread; value = false }) ∷ queue.new.queue) }
     ensures threads { queue.new.threads ≡ queue.old.threads }
 {
     match queue.head() {

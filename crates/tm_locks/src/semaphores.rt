@@ -27,8 +27,8 @@ impl Model for SemM {
 }
 
 impl SemM {
-    /// A semaphore of this value, at most `GREATEST_SEMAPHORE_VALUE`, for threads 1 to `threads`, which are at most
-    /// `MOST_THREADS`. Nothing later takes memory.
+    /// A semaphore of this value, at most `GREATEST_SEMAPHORE_VALUE`, for threads 1 to `threads`, which are
+    /// at most `MOST_THREADS`. Nothing later takes memory.
     pub fn make(alloc: Global, threads: u32, value: u32) -> Result<SemM, NoMemory>
         requires few { threads ≤ MOST_THREADS }
         requires small { value ≤ GREATEST_SEMAPHORE_VALUE }
