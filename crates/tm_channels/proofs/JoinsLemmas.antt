@@ -156,3 +156,6 @@ module _ (l : Label) (own : ℕ) (held : Bool) (its : l.kind ≡ kind.Thread own
 
   pub joins-after : (es : List Entry) (p : HistoryState) → IsHistory l es p → (prefix back : List Entry) (e : Entry) → es ≡ prefix ++ e ∷ back → IsJoined own e → (a : Entry) × Contains prefix a × (is_end a.op ≡ true)
   joins-after es p run prefix back e parts joined = before-end prefix back e p (subst (λ (xs : List Entry). IsHistory l xs p) parts run) joined
+
+  pub granted-after : (es : List Entry) (p : HistoryState) (t : ℕ) → IsHistory l es p → t ≢ own → grant_of p.state t ≡ Some reply.Ok → (a : Entry) × Contains es a × (is_end a.op ≡ true)
+  granted-after es p t run ne had = end-made l es p run ((history-awaits es p run).granted t ne had)

@@ -1,10 +1,11 @@
-//! Objects over which threads meet, as textbooks define them.
+//! Objects over which threads meet: the channels of textbooks, the object of a thread, and the shared
+//! variable.
 #![tactic(auto)]
 
 ghost use Rattle.tm_channels.specs.Assignments.{ReadsGetWhatWasWritten};
 ghost use Rattle.tm_channels.specs.Capacities.{CapacityIsKept};
 ghost use Rattle.tm_channels.specs.Deliveries.{ChannelsKeepOrder};
-ghost use Rattle.tm_channels.specs.Joins.{JoinsAfterEnd};
+ghost use Rattle.tm_channels.specs.Joins.{GrantsAfterEnd, JoinsAfterEnd};
 
 mod async_channels;
 mod channel_queues;
@@ -18,9 +19,10 @@ pub use thread_objects::ThreadM;
 pub use variables::VarM;
 
 /// In every legal history of a thread object a `join` is answered `ok`, at once or after it waited,
-/// only after the thread's `end`.
+/// only after the thread's `end`, and a `join` that waits is granted `ok` only after it.
 pub fn joins_come_after_the_end()
-    ensures { JoinsAfterEnd }
+    ensures answers { JoinsAfterEnd }
+    ensures grants { GrantsAfterEnd }
 {}
 
 /// In every legal history of a variable each `read` and `add` gets what the writes and additions
