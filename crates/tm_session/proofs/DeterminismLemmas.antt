@@ -123,15 +123,16 @@ module _ (x : ExerciseView) (rules : Rules) (formed : IsWellFormed x) where
 
   -- of two runs from one turn the one that is over goes on with the other
   prefix-of : (es fs : List Entry) (s p q : RunState) → IsSoundTurn x s → Leads (Goes x rules) s es p → Leads (Goes x rules) s fs q
-      → is_over (bars_of q.joint) ≡ true → (rest : List Entry) × (fs ≡ es ++ rest)
-  prefix-of [] fs s p q sound left right ended = (fs, refl)
+      → is_over (bars_of q.joint) ≡ true → (rest : List Entry) × (fs ≡ es ++ rest) × Leads (Goes x rules) p rest q
+  prefix-of [] fs s p q sound left right ended = (fs, refl, subst (λ (m : RunState). Leads (Goes x rules) m fs q) (sym left) right)
   prefix-of (e ∷ es) [] s p q sound left right ended =
       absurd (over-rests x rules s left.0 e sound (ap (λ (t : RunState). is_over (bars_of t.joint)) (sym right) ∙ ended) left.1)
   prefix-of (e ∷ es) (f ∷ fs) s p q sound left right ended =
       let one = Goes-one x rules s left.0 right.0 e f formed sound left.1 right.1 in
       let after = (turned x rules s left.0 e formed sound left.1).1 in
       let more = prefix-of es fs left.0 p q after left.2 (subst (λ (m : RunState). Leads (Goes x rules) m fs q) (sym one.1) right.2) ended in
-      (more.0, ap (λ l. f ∷ l) more.1 ∙ ap (λ d. d ∷ (es ++ more.0)) (sym one.0))
+      (more.0, ap (λ l. f ∷ l) more.1 ∙ ap (λ d. d ∷ (es ++ more.0)) (sym one.0), more.2)
 
-  pub begun-prefix : (es fs : List Entry) (p q : RunState) → BeginsAlone x rules es p → IsAloneRun x rules fs q → (rest : List Entry) × (fs ≡ es ++ rest)
+  pub begun-prefix : (es fs : List Entry) (p q : RunState) → BeginsAlone x rules es p → IsAloneRun x rules fs q
+      → (rest : List Entry) × (fs ≡ es ++ rest) × Leads (Goes x rules) p rest q
   begun-prefix es fs p q begun whole = prefix-of es fs (first_run_state x rules) p q (first-sound x rules formed) begun whole.run whole.over

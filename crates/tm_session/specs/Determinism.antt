@@ -2,9 +2,10 @@
 use Rattle.std.specs.Prelude.{◌≡◌, ℕ, List, ◌++◌}
 use Rattle.tm_base.specs.declared.ends.End.{End}
 use Rattle.tm_base.specs.declared.events.Entry.{Entry}
+use Rattle.tm_base.specs.Runs.{Leads}
 use Rattle.tm_text.specs.Exercises.{ExerciseView, IsWellFormed}
 use Rattle.tm_session.specs.declared.rules.Rules.{Rules}
-use Rattle.tm_session.specs.Turns.{RunState, BeginsAlone, IsAloneRun}
+use Rattle.tm_session.specs.Turns.{RunState, BeginsAlone, Goes, IsAloneRun}
 use Rattle.tm_session.specs.Transcripts.{IsAloneText}
 
 -- The exercise has a whole alone run under the rules.
@@ -23,10 +24,12 @@ abbrev pub OneAloneRun : Type 0
 OneAloneRun = (x : ExerciseView) (rules : Rules) (es fs : List Entry) (p q : RunState)
     → IsWellFormed x → IsAloneRun x rules es p → IsAloneRun x rules fs q → (es ≡ fs) × (p ≡ q)
 
--- What was begun of a well-formed exercise's alone run is a prefix of the whole one.
+-- What was begun of a well-formed exercise's alone run is a prefix of the whole one, and goes on by the rest of
+-- it, from the state to which it came to that of the whole run.
 abbrev pub BegunRunsArePrefixes : Type 0
 BegunRunsArePrefixes = (x : ExerciseView) (rules : Rules) (es fs : List Entry) (p q : RunState)
-    → IsWellFormed x → BeginsAlone x rules es p → IsAloneRun x rules fs q → (rest : List Entry) × (fs ≡ es ++ rest)
+    → IsWellFormed x → BeginsAlone x rules es p → IsAloneRun x rules fs q
+    → (rest : List Entry) × (fs ≡ es ++ rest) × Leads (Goes x rules) p rest q
 
 -- The exercise has a text of its alone run under the rules.
 pub record HasAloneText (x : ExerciseView) (rules : Rules) : Type 0 where

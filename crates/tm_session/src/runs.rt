@@ -82,8 +82,8 @@ pub fn exercises_have_one_alone_run()
     ensures unique { OneAloneRun }
 {}
 
-/// Whatever was begun of the alone run is a prefix of the whole one: no run goes on for ever, and
-/// none comes to a state that isn't over and has no next event.
+/// Whatever was begun of the alone run is a prefix of the whole one, and the rest leads on from the state to
+/// which it came: no run goes on for ever, and none comes to a state that isn't over and has no next event.
 pub fn begun_runs_are_prefixes()
     ensures { BegunRunsArePrefixes }
 {}
