@@ -1,4 +1,5 @@
-ghost use Rattle.std.specs.Prelude.{◌≡◌, ◌≤◌, ◌<◌, ◌+◌, ◌*◌, ◌++◌, ◌∷◌, [], false, length, replicate, IfOk, IfSome, MatchOption, slice_get};
+ghost use Rattle.std.specs.Prelude.{◌≡◌, ◌≤◌, ◌<◌, ◌+◌, ◌*◌, ◌++◌, ◌∷◌, [], false, length, replicate};
+ghost use Rattle.std.specs.Prelude.{IfOk, IfSome, MatchOption, slice_get};
 ghost use Rattle.std.specs.List.{All};
 ghost use Rattle.tm_base.specs.States.{all_of, grant_all, is_queued};
 ghost use Rattle.tm_monitors.specs.MonitorQueues.{

@@ -1,4 +1,5 @@
-ghost use Rattle.std.specs.Prelude.{◌≡◌, ◌≤◌, ◌<◌, ◌+◌, ◌∷◌, [], false, length, IfOk, IfSome, MatchOption, slice_get};
+ghost use Rattle.std.specs.Prelude.{◌≡◌, ◌≤◌, ◌<◌, ◌+◌, ◌∷◌, [], false, length};
+ghost use Rattle.std.specs.Prelude.{IfOk, IfSome, MatchOption, slice_get};
 ghost use Rattle.tm_base.specs.States.{grant_all, is_queued};
 ghost use Rattle.tm_queues.specs.WaitQueues.{empty_queue};
 
