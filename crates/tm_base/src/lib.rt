@@ -12,6 +12,7 @@ mod lists;
 mod machines;
 mod memory;
 mod names;
+mod opcodes;
 mod operations;
 mod replies;
 #[cfg(test)]
@@ -28,6 +29,7 @@ pub use lists::{Bytes, Entries, Sequence};
 pub use machines::Machine;
 pub use memory::NoMemory;
 pub use names::Name;
+pub use opcodes::{Opcode, words_spell_one_operation};
 pub use operations::Op;
 pub use replies::Reply;
 pub use tickets::Ticket;

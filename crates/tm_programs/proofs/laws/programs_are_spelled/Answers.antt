@@ -1,0 +1,5 @@
+use Rattle.tm_programs.proofs.Spelling.{program_of-flat, flat-program_of}
+use Rattle.tm_programs.proofs.laws.programs_are_spelled.Goals as goal
+
+pub returns : goal.returns
+returns c = (program_of-flat, flat-program_of)

@@ -1,0 +1,4 @@
+pub mod Programs
+pub mod Instructions
+pub mod Calls
+pub mod Laws
