@@ -12,15 +12,6 @@ followed-assoc (Repeat turns body next) q r = ap (Repeat turns body) (followed-a
 followed-assoc (While register how value body next) q r = ap (While register how value body) (followed-assoc next q r)
 followed-assoc (If register how value body next) q r = ap (If register how value body) (followed-assoc next q r)
 
-pub followed-over : (p : Program) → followed p Over ≡ p
-followed-over Over = refl
-followed-over (Call object code with next) = ap (Call object code with) (followed-over next)
-followed-over (Set register value next) = ap (Set register value) (followed-over next)
-followed-over (Inc register value next) = ap (Inc register value) (followed-over next)
-followed-over (Repeat turns body next) = ap (Repeat turns body) (followed-over next)
-followed-over (While register how value body next) = ap (While register how value body) (followed-over next)
-followed-over (If register how value body next) = ap (If register how value body) (followed-over next)
-
 joined-assoc : (body : Program) (rs : List ℤ) (q s : Program) (f g : List ℤ → Remainder)
     → and_then (joined body rs q f) s g ≡ joined body rs (followed q s) (λ now. and_then (f now) s g)
 joined-assoc Over rs q s f g = refl

@@ -83,6 +83,11 @@ abbrev pub first_of : List Program → Program
 first_of [] = Over
 first_of (p ∷ ps) = p
 
+-- All programs but the first.
+abbrev pub rest_of : List Program → List Program
+rest_of [] = []
+rest_of (p ∷ ps) = ps
+
 -- The program that instructions spell.
 abbrev pub program_of : List Instruction → Program
 program_of items = first_of (programs_of items)

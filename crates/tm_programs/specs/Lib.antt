@@ -2,3 +2,6 @@ pub mod Programs
 pub mod Instructions
 pub mod Calls
 pub mod Laws
+pub mod Running
+pub mod Spelled
+pub mod Codes

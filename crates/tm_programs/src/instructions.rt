@@ -1,3 +1,6 @@
+ghost use Rattle.std.specs.Prelude.{◌≡◌};
+ghost use Rattle.tm_programs.specs.Programs.{holds};
+
 use tm_base::Opcode;
 
 /// How a register is compared with a number.
@@ -9,6 +12,22 @@ pub enum Comparison {
     AtMost,
     Greater,
     AtLeast,
+}
+
+impl Comparison {
+    /// The comparison holds of the value and the number.
+    pub fn holds(self, value: i64, number: i64) -> bool
+        ensures { result ≡ holds self value number }
+    {
+        match self {
+            Comparison::Equal => value == number,
+            Comparison::NotEqual => value != number,
+            Comparison::Less => value < number,
+            Comparison::AtMost => value <= number,
+            Comparison::Greater => value > number,
+            Comparison::AtLeast => value >= number,
+        }
+    }
 }
 
 /// What a call has beside its object.
