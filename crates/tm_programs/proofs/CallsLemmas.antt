@@ -13,20 +13,28 @@ module _ (P : ℕ → Opcode → Operand → Type 0) where
   AllCalls-followed (Set register value next) q one other = AllCalls-followed next q one other
   AllCalls-followed (Inc register value next) q one other = AllCalls-followed next q one other
   AllCalls-followed (Repeat turns body next) q one other = (one.0, AllCalls-followed next q one.1 other)
-  AllCalls-followed (While register how value body next) q one other = (one.0, AllCalls-followed next q one.1 other)
-  AllCalls-followed (If register how value body next) q one other = (one.0, AllCalls-followed next q one.1 other)
+  AllCalls-followed (While register how value body next) q one other =
+      (one.0, AllCalls-followed next q one.1 other)
+  AllCalls-followed (If register how value body next) q one other =
+      (one.0, AllCalls-followed next q one.1 other)
 
-  AllCalls-joined : (p : Program) (rs : List ℤ) (q : Program) (f : List ℤ → Remainder) → AllCalls P p → AllCalls P q
+  AllCalls-joined : (p : Program) (rs : List ℤ) (q : Program) (f : List ℤ → Remainder) → AllCalls P p
+      → AllCalls P q
       → ((now : List ℤ) → AllCalls P (f now).program) → AllCalls P (joined p rs q f).program
   AllCalls-joined Over rs q f one other goes = goes rs
-  AllCalls-joined (Call object code with next) rs q f one other goes = AllCalls-followed (Call object code with next) q one other
+  AllCalls-joined (Call object code with next) rs q f one other goes =
+      AllCalls-followed (Call object code with next) q one other
   AllCalls-joined (Set register value next) rs q f one other goes = AllCalls-followed next q one other
   AllCalls-joined (Inc register value next) rs q f one other goes = AllCalls-followed next q one other
-  AllCalls-joined (Repeat turns body next) rs q f one other goes = AllCalls-followed (Repeat turns body next) q one other
-  AllCalls-joined (While register how value body next) rs q f one other goes = AllCalls-followed (While register how value body next) q one other
-  AllCalls-joined (If register how value body next) rs q f one other goes = AllCalls-followed (If register how value body next) q one other
+  AllCalls-joined (Repeat turns body next) rs q f one other goes =
+      AllCalls-followed (Repeat turns body next) q one other
+  AllCalls-joined (While register how value body next) rs q f one other goes =
+      AllCalls-followed (While register how value body next) q one other
+  AllCalls-joined (If register how value body next) rs q f one other goes =
+      AllCalls-followed (If register how value body next) q one other
 
-  either : (b : Bool) (x y : Remainder) → AllCalls P x.program → AllCalls P y.program → AllCalls P (if b then x else y).program
+  either : (b : Bool) (x y : Remainder) → AllCalls P x.program → AllCalls P y.program
+      → AllCalls P (if b then x else y).program
   either true x y left_calls right_calls = left_calls
   either false x y left_calls right_calls = right_calls
 
@@ -37,21 +45,27 @@ module _ (P : ℕ → Opcode → Operand → Type 0) where
   AllCalls-until_call (Inc register value next) rs calls = AllCalls-until_call next _ calls
   AllCalls-until_call (Repeat zero body next) rs calls = AllCalls-until_call next rs calls.1
   AllCalls-until_call (Repeat (suc turns) body next) rs calls =
-      AllCalls-joined (until_call body rs).program _ (Repeat turns body next) _ (AllCalls-until_call body rs calls.0) calls (λ now. AllCalls-until_call next now calls.1)
+      AllCalls-joined (until_call body rs).program _ (Repeat turns body next) _
+      (AllCalls-until_call body rs calls.0) calls (λ now. AllCalls-until_call next now calls.1)
   AllCalls-until_call (While register how value body next) rs calls =
       either (holds how (register_of rs register) value) _ _
-      (AllCalls-joined (until_call body rs).program _ (While register how value body next) _ (AllCalls-until_call body rs calls.0) calls (λ now. AllCalls-until_call next now calls.1))
+      (AllCalls-joined (until_call body rs).program _ (While register how value body next) _
+      (AllCalls-until_call body rs calls.0) calls (λ now. AllCalls-until_call next now calls.1))
       (AllCalls-until_call next rs calls.1)
   AllCalls-until_call (If register how value body next) rs calls =
       either (holds how (register_of rs register) value) _ _
-      (AllCalls-joined (until_call body rs).program _ next _ (AllCalls-until_call body rs calls.0) calls.1 (λ now. AllCalls-until_call next now calls.1))
+      (AllCalls-joined (until_call body rs).program _ next _ (AllCalls-until_call body rs calls.0) calls.1
+      (λ now. AllCalls-until_call next now calls.1))
       (AllCalls-until_call next rs calls.1)
 
-  AllCalls-left_after : (last : Option Reply) (p : Program) (rs : List ℤ) (answer : Reply) → AllCalls P p → AllCalls P (left_after last p rs answer).program
+  AllCalls-left_after : (last : Option Reply) (p : Program) (rs : List ℤ) (answer : Reply) → AllCalls P p
+      → AllCalls P (left_after last p rs answer).program
   AllCalls-left_after None p rs answer calls = AllCalls-until_call p rs calls
-  AllCalls-left_after (Some before) (Call object code with next) rs answer calls = AllCalls-until_call next _ calls.1
+  AllCalls-left_after (Some before) (Call object code with next) rs answer calls =
+      AllCalls-until_call next _ calls.1
   AllCalls-left_after (Some before) p rs answer calls = calls
 
   -- what holds of every call of what is left holds after one more reply
-  pub AllCalls-answered : (rest : Rest) (answer : Reply) → AllCalls P rest.program → AllCalls P (answered rest answer).program
+  pub AllCalls-answered : (rest : Rest) (answer : Reply) → AllCalls P rest.program
+      → AllCalls P (answered rest answer).program
   AllCalls-answered rest answer calls = AllCalls-left_after rest.last rest.program rest.registers answer calls

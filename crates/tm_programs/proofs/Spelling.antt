@@ -31,33 +31,40 @@ pub record Goes (blocks : List Block) (i : Instruction) (items : List Instructio
   pub after : blocks_after blocks i ≡ Some now
   pub others : blocks_of now items ≡ Some []
 
-goes-some : (after : Option (List Block)) (items : List Instruction) → option_and_then (λ (now : List Block). blocks_of now items) after ≡ Some []
+goes-some : (after : Option (List Block)) (items : List Instruction)
+    → option_and_then (λ (now : List Block). blocks_of now items) after ≡ Some []
     → (now : List Block) × (after ≡ Some now) × (blocks_of now items ≡ Some [])
 goes-some None items nested = absurd (let e : None ≡ Some [] = nested in cc)
 goes-some (Some now) items nested = (now, refl, nested)
 
-pub goes : (blocks : List Block) (i : Instruction) (items : List Instruction) → blocks_of blocks (i ∷ items) ≡ Some [] → Goes blocks i items
+pub goes : (blocks : List Block) (i : Instruction) (items : List Instruction)
+    → blocks_of blocks (i ∷ items) ≡ Some [] → Goes blocks i items
 goes blocks i items nested =
-    let it = goes-some (blocks_after blocks i) items nested in record { now = it.0; after = it.1; others = it.2 }
+    let it =
+    goes-some (blocks_after blocks i) items nested in record { now = it.0; after = it.1; others = it.2 }
 
-if-some : (test : Bool) (to now : List Block) → (if test then Some to else None) ≡ Some now → (test ≡ true) × (now ≡ to)
+if-some : (test : Bool) (to now : List Block) → (if test then Some to else None) ≡ Some now
+    → (test ≡ true) × (now ≡ to)
 if-some true to now e = (refl, cc)
 if-some false to now e = absurd (let f : None ≡ Some now = e in cc)
 
 -- a block is opened where there is room for it
-pub opened-some : (block : Block) (blocks now : List Block) → opened block blocks ≡ Some now → (length blocks < 16) × (now ≡ block ∷ blocks)
+pub opened-some : (block : Block) (blocks now : List Block) → opened block blocks ≡ Some now
+    → (length blocks < 16) × (now ≡ block ∷ blocks)
 opened-some block blocks now e =
     let it = if-some (nat_lt (length blocks) MOST_BLOCKS) (block ∷ blocks) now e in (ltb-true _ _ it.0, it.1)
 
 -- the innermost block is closed
-pub closed-some : (blocks now : List Block) → closed blocks ≡ Some now → (block : Block) × (blocks ≡ block ∷ now) × Owes block Over
+pub closed-some : (blocks now : List Block) → closed blocks ≡ Some now
+    → (block : Block) × (blocks ≡ block ∷ now) × Owes block Over
 closed-some [] now e = absurd (let f : None ≡ Some now = e in cc)
 closed-some (Loop false ∷ blocks) now e = absurd (let f : None ≡ Some now = e in cc)
 closed-some (Loop true ∷ blocks) now e = (Loop true, cc, tt)
 closed-some (Choice ∷ blocks) now e = (Choice, cc, tt)
 
 -- an instruction in front, where a block that owed a call before owes it now, or it is one
-Fit-in_front : (one : Program → Program) (blocks : List Block) (ps : List Program) → ((block : Block) (p : Program) → Owes block p → Owes block (one p))
+Fit-in_front : (one : Program → Program) (blocks : List Block) (ps : List Program)
+    → ((block : Block) (p : Program) → Owes block p → Owes block (one p))
     → Fit blocks ps → Fit blocks (in_front one ps)
 Fit-in_front one [] [] keeps fit = absurd fit
 Fit-in_front one [] (p ∷ []) keeps fit = tt
@@ -65,75 +72,92 @@ Fit-in_front one [] (p ∷ q ∷ ps) keeps fit = absurd fit
 Fit-in_front one (block ∷ blocks) [] keeps fit = absurd fit
 Fit-in_front one (block ∷ blocks) (p ∷ ps) keeps fit = (keeps block p fit.0, fit.1)
 
-Owes-call : (object : ℕ) (code : Opcode) (with : Operand) (block : Block) (p : Program) → Owes block (Call object code with p)
+Owes-call : (object : ℕ) (code : Opcode) (with : Operand) (block : Block) (p : Program)
+    → Owes block (Call object code with p)
 Owes-call object code with (Loop false) p = tt
 Owes-call object code with (Loop true) p = tt
 Owes-call object code with Choice p = tt
 
-Fit-call : (object : ℕ) (code : Opcode) (with : Operand) (blocks : List Block) (ps : List Program) → Fit (with_call blocks) ps
+Fit-call : (object : ℕ) (code : Opcode) (with : Operand) (blocks : List Block) (ps : List Program)
+    → Fit (with_call blocks) ps
     → Fit blocks (in_front (Call object code with) ps)
 Fit-call object code with [] [] fit = absurd fit
 Fit-call object code with [] (p ∷ []) fit = tt
 Fit-call object code with [] (p ∷ q ∷ ps) fit = absurd fit
 Fit-call object code with (Loop asks ∷ blocks) [] fit = absurd fit
-Fit-call object code with (Loop asks ∷ blocks) (p ∷ ps) fit = (Owes-call object code with (Loop asks) p, fit.1)
+Fit-call object code with (Loop asks ∷ blocks) (p ∷ ps) fit =
+    (Owes-call object code with (Loop asks) p, fit.1)
 Fit-call object code with (Choice ∷ blocks) [] fit = absurd fit
 Fit-call object code with (Choice ∷ blocks) (p ∷ ps) fit = (tt, fit.1)
 
 Fit-around : (block : Program → Program → Program) (opening : Block) (blocks : List Block) (ps : List Program)
-    → ((owed : Block) (body next : Program) → Owes owed next → Owes owed (block body next)) → Fit (opening ∷ blocks) ps → Fit blocks (around block ps)
+    → ((owed : Block) (body next : Program) → Owes owed next → Owes owed (block body next))
+    → Fit (opening ∷ blocks) ps → Fit blocks (around block ps)
 Fit-around block opening blocks [] keeps fit = absurd fit
 Fit-around block opening [] (body ∷ []) keeps fit = absurd fit.1
 Fit-around block opening [] (body ∷ next ∷ []) keeps fit = tt
 Fit-around block opening [] (body ∷ next ∷ p ∷ ps) keeps fit = absurd fit.1
 Fit-around block opening (owed ∷ blocks) (body ∷ []) keeps fit = absurd fit.1
-Fit-around block opening (owed ∷ blocks) (body ∷ next ∷ ps) keeps fit = (keeps owed body next fit.1.0, fit.1.1)
+Fit-around block opening (owed ∷ blocks) (body ∷ next ∷ ps) keeps fit =
+    (keeps owed body next fit.1.0, fit.1.1)
 
-Owes-set : (register : ℕ) (value : ℤ) (block : Block) (p : Program) → Owes block p → Owes block (Set register value p)
+Owes-set : (register : ℕ) (value : ℤ) (block : Block) (p : Program) → Owes block p
+    → Owes block (Set register value p)
 Owes-set register value (Loop false) p owed = owed
 Owes-set register value (Loop true) p owed = tt
 Owes-set register value Choice p owed = tt
 
-Owes-inc : (register : ℕ) (value : ℤ) (block : Block) (p : Program) → Owes block p → Owes block (Inc register value p)
+Owes-inc : (register : ℕ) (value : ℤ) (block : Block) (p : Program) → Owes block p
+    → Owes block (Inc register value p)
 Owes-inc register value (Loop false) p owed = owed
 Owes-inc register value (Loop true) p owed = tt
 Owes-inc register value Choice p owed = tt
 
-Owes-repeat : (turns : ℕ) (block : Block) (body next : Program) → Owes block next → Owes block (Repeat turns body next)
+Owes-repeat : (turns : ℕ) (block : Block) (body next : Program) → Owes block next
+    → Owes block (Repeat turns body next)
 Owes-repeat turns (Loop false) body next owed = owed
 Owes-repeat turns (Loop true) body next owed = tt
 Owes-repeat turns Choice body next owed = tt
 
-Owes-while : (register : ℕ) (how : Comparison) (value : ℤ) (block : Block) (body next : Program) → Owes block next → Owes block (While register how value body next)
+Owes-while : (register : ℕ) (how : Comparison) (value : ℤ) (block : Block) (body next : Program)
+    → Owes block next → Owes block (While register how value body next)
 Owes-while register how value (Loop false) body next owed = owed
 Owes-while register how value (Loop true) body next owed = tt
 Owes-while register how value Choice body next owed = tt
 
-Owes-if : (register : ℕ) (how : Comparison) (value : ℤ) (block : Block) (body next : Program) → Owes block next → Owes block (If register how value body next)
+Owes-if : (register : ℕ) (how : Comparison) (value : ℤ) (block : Block) (body next : Program)
+    → Owes block next → Owes block (If register how value body next)
 Owes-if register how value (Loop false) body next owed = owed
 Owes-if register how value (Loop true) body next owed = tt
 Owes-if register how value Choice body next owed = tt
 
 -- a block opens: the programs fit the blocks with it
-pub opens : (block : Block) (blocks now : List Block) (ps : List Program) → opened block blocks ≡ Some now → Fit now ps → Fit (block ∷ blocks) ps
-opens block blocks now ps e fit = subst (λ (bs : List Block). Fit bs ps) (opened-some block blocks now e).1 fit
+pub opens : (block : Block) (blocks now : List Block) (ps : List Program) → opened block blocks ≡ Some now
+    → Fit now ps → Fit (block ∷ blocks) ps
+opens block blocks now ps e fit =
+    subst (λ (bs : List Block). Fit bs ps) (opened-some block blocks now e).1 fit
 
 -- the programs of nested instructions fit the open blocks
-pub nested-fit : (items : List Instruction) (blocks : List Block) → blocks_of blocks items ≡ Some [] → Fit blocks (programs_of items)
-nested-fit [] blocks nested = subst (λ (bs : List Block). Fit bs (Over ∷ [])) (let e : [] ≡ blocks = cc in e) tt
+pub nested-fit : (items : List Instruction) (blocks : List Block) → blocks_of blocks items ≡ Some []
+    → Fit blocks (programs_of items)
+nested-fit [] blocks nested =
+    subst (λ (bs : List Block). Fit bs (Over ∷ [])) (let e : [] ≡ blocks = cc in e) tt
 nested-fit (instruction.Call object code with ∷ items) blocks nested =
     Fit-call object code with blocks (programs_of items) (nested-fit items (with_call blocks) nested)
 nested-fit (instruction.Set register value ∷ items) blocks nested =
-    Fit-in_front (Set register value) blocks (programs_of items) (Owes-set register value) (nested-fit items blocks nested)
+    Fit-in_front (Set register value) blocks (programs_of items) (Owes-set register value)
+    (nested-fit items blocks nested)
 nested-fit (instruction.Inc register value ∷ items) blocks nested =
-    Fit-in_front (Inc register value) blocks (programs_of items) (Owes-inc register value) (nested-fit items blocks nested)
+    Fit-in_front (Inc register value) blocks (programs_of items) (Owes-inc register value)
+    (nested-fit items blocks nested)
 nested-fit (instruction.Repeat turns ∷ items) blocks nested =
     let it = goes blocks (instruction.Repeat turns) items nested in
     Fit-around (Repeat turns) (Loop false) blocks (programs_of items) (Owes-repeat turns)
     (opens (Loop false) blocks it.now _ it.after (nested-fit items it.now it.others))
 nested-fit (instruction.While register how value ∷ items) blocks nested =
     let it = goes blocks (instruction.While register how value) items nested in
-    Fit-around (While register how value) (Loop false) blocks (programs_of items) (Owes-while register how value)
+    Fit-around (While register how value) (Loop false) blocks (programs_of items)
+    (Owes-while register how value)
     (opens (Loop false) blocks it.now _ it.after (nested-fit items it.now it.others))
 nested-fit (instruction.If register how value ∷ items) blocks nested =
     let it = goes blocks (instruction.If register how value) items nested in
@@ -142,7 +166,8 @@ nested-fit (instruction.If register how value ∷ items) blocks nested =
 nested-fit (instruction.End ∷ items) blocks nested =
     let it = goes blocks instruction.End items nested in
     let was = closed-some blocks it.now it.after in
-    subst (λ (bs : List Block). Fit bs (Over ∷ programs_of items)) (sym was.1) (was.2, nested-fit items it.now it.others)
+    subst (λ (bs : List Block). Fit bs (Over ∷ programs_of items)) (sym was.1)
+    (was.2, nested-fit items it.now it.others)
 
 -- the instructions of programs, with an end between one and the next
 abbrev pub ends_of : List Program → List Instruction
@@ -153,18 +178,22 @@ abbrev pub flats : List Program → List Instruction
 flats [] = []
 flats (p ∷ ps) = flat p ++ ends_of ps
 
-flats-ends : (blocks : List Block) (ps : List Program) → Fit blocks ps → instruction.End ∷ flats ps ≡ ends_of ps
+flats-ends : (blocks : List Block) (ps : List Program) → Fit blocks ps
+    → instruction.End ∷ flats ps ≡ ends_of ps
 flats-ends [] [] fit = absurd fit
 flats-ends (block ∷ blocks) [] fit = absurd fit
 flats-ends blocks (p ∷ ps) fit = refl
 
-flats-in_front : (one : Program → Program) (i : Instruction) → ((p : Program) → flat (one p) ≡ i ∷ flat p) → (blocks : List Block) (ps : List Program) → Fit blocks ps
+flats-in_front : (one : Program → Program) (i : Instruction) → ((p : Program) → flat (one p) ≡ i ∷ flat p)
+    → (blocks : List Block) (ps : List Program) → Fit blocks ps
     → flats (in_front one ps) ≡ i ∷ flats ps
 flats-in_front one i spelled [] [] fit = absurd fit
 flats-in_front one i spelled (block ∷ blocks) [] fit = absurd fit
-flats-in_front one i spelled blocks (p ∷ ps) fit = ap (λ (xs : List Instruction). xs ++ ends_of ps) (spelled p)
+flats-in_front one i spelled blocks (p ∷ ps) fit =
+    ap (λ (xs : List Instruction). xs ++ ends_of ps) (spelled p)
 
-flats-around : (block : Program → Program → Program) (i : Instruction) → ((body next : Program) → flat (block body next) ≡ i ∷ flat body ++ instruction.End ∷ flat next)
+flats-around : (block : Program → Program → Program) (i : Instruction)
+    → ((body next : Program) → flat (block body next) ≡ i ∷ flat body ++ instruction.End ∷ flat next)
     → (opening : Block) (blocks : List Block) (ps : List Program) → Fit (opening ∷ blocks) ps
     → flats (around block ps) ≡ i ∷ flats ps
 flats-around block i spelled opening blocks [] fit = absurd fit
@@ -172,19 +201,25 @@ flats-around block i spelled opening [] (body ∷ []) fit = absurd fit.1
 flats-around block i spelled opening (owed ∷ blocks) (body ∷ []) fit = absurd fit.1
 flats-around block i spelled opening blocks (body ∷ next ∷ ps) fit =
     ap (λ (xs : List Instruction). xs ++ ends_of ps) (spelled body next)
-    ∙ ap (λ (xs : List Instruction). i ∷ xs) (append_assoc (flat body) (instruction.End ∷ flat next) (ends_of ps))
+    ∙ ap (λ (xs : List Instruction). i ∷ xs)
+    (append_assoc (flat body) (instruction.End ∷ flat next) (ends_of ps))
 
 -- nested instructions are those of the programs that they spell
-pub flats-nested : (items : List Instruction) (blocks : List Block) → blocks_of blocks items ≡ Some [] → flats (programs_of items) ≡ items
+pub flats-nested : (items : List Instruction) (blocks : List Block) → blocks_of blocks items ≡ Some []
+    → flats (programs_of items) ≡ items
 flats-nested [] blocks nested = refl
 flats-nested (instruction.Call object code with ∷ items) blocks nested =
-    flats-in_front (Call object code with) _ (λ p. refl) (with_call blocks) (programs_of items) (nested-fit items (with_call blocks) nested)
-    ∙ ap (λ (xs : List Instruction). instruction.Call object code with ∷ xs) (flats-nested items (with_call blocks) nested)
+    flats-in_front (Call object code with) _ (λ p. refl) (with_call blocks) (programs_of items)
+    (nested-fit items (with_call blocks) nested)
+    ∙ ap (λ (xs : List Instruction). instruction.Call object code with ∷ xs)
+    (flats-nested items (with_call blocks) nested)
 flats-nested (instruction.Set register value ∷ items) blocks nested =
-    flats-in_front (Set register value) _ (λ p. refl) blocks (programs_of items) (nested-fit items blocks nested)
+    flats-in_front (Set register value) _ (λ p. refl) blocks (programs_of items)
+    (nested-fit items blocks nested)
     ∙ ap (λ (xs : List Instruction). instruction.Set register value ∷ xs) (flats-nested items blocks nested)
 flats-nested (instruction.Inc register value ∷ items) blocks nested =
-    flats-in_front (Inc register value) _ (λ p. refl) blocks (programs_of items) (nested-fit items blocks nested)
+    flats-in_front (Inc register value) _ (λ p. refl) blocks (programs_of items)
+    (nested-fit items blocks nested)
     ∙ ap (λ (xs : List Instruction). instruction.Inc register value ∷ xs) (flats-nested items blocks nested)
 flats-nested (instruction.Repeat turns ∷ items) blocks nested =
     let it = goes blocks (instruction.Repeat turns) items nested in
@@ -195,12 +230,14 @@ flats-nested (instruction.While register how value ∷ items) blocks nested =
     let it = goes blocks (instruction.While register how value) items nested in
     flats-around (While register how value) _ (λ body next. refl) (Loop false) blocks (programs_of items)
     (opens (Loop false) blocks it.now _ it.after (nested-fit items it.now it.others))
-    ∙ ap (λ (xs : List Instruction). instruction.While register how value ∷ xs) (flats-nested items it.now it.others)
+    ∙ ap (λ (xs : List Instruction). instruction.While register how value ∷ xs)
+    (flats-nested items it.now it.others)
 flats-nested (instruction.If register how value ∷ items) blocks nested =
     let it = goes blocks (instruction.If register how value) items nested in
     flats-around (If register how value) _ (λ body next. refl) Choice blocks (programs_of items)
     (opens Choice blocks it.now _ it.after (nested-fit items it.now it.others))
-    ∙ ap (λ (xs : List Instruction). instruction.If register how value ∷ xs) (flats-nested items it.now it.others)
+    ∙ ap (λ (xs : List Instruction). instruction.If register how value ∷ xs)
+    (flats-nested items it.now it.others)
 flats-nested (instruction.End ∷ items) blocks nested =
     let it = goes blocks instruction.End items nested in
     sym (flats-ends it.now (programs_of items) (nested-fit items it.now it.others))

@@ -21,4 +21,6 @@ AllCallsPass test p = AllCalls (λ object code with. IsTrue (test object code wi
 
 -- Whatever test every call of a program passes, every call of what is left of it passes.
 abbrev pub CallsStay : Type 0
-CallsStay = (test : ℕ → Opcode → Operand → Bool) (rest : Rest) (answer : Reply) → AllCallsPass test rest.program → AllCallsPass test (answered rest answer).program
+CallsStay =
+    (test : ℕ → Opcode → Operand → Bool) (rest : Rest) (answer : Reply) → AllCallsPass test rest.program
+    → AllCallsPass test (answered rest answer).program

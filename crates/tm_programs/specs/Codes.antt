@@ -16,12 +16,16 @@ parts_of rest = (flat rest.program, (rest.registers, rest.last))
 abbrev pub of_parts : List Instruction × (List ℤ × Option Reply) → Rest
 of_parts parts = record { program = program_of parts.0; registers = parts.1.0; last = parts.1.1 }
 
+abbrev with_program : Rest → Program → Rest
+with_program rest p = record { program = p; registers = rest.registers; last = rest.last }
+
 pub of_parts-parts_of : (rest : Rest) → of_parts (parts_of rest) ≡ rest
 of_parts-parts_of rest =
-    ap (λ (p : Program). let r : Rest = record { program = p; registers = rest.registers; last = rest.last } in r) (program_of-flat rest.program)
+    ap (with_program rest) (program_of-flat rest.program)
 
 abbrev pub rest_code : Coded Rest
 rest_code =
     code_by (List Instruction × (List ℤ × Option Reply))
-    (coded× (coded_list instruction.the_row.coded) (coded× (coded_list coded_ℤ) (coded_option reply.the_row.coded)))
+    (coded× (coded_list instruction.the_row.coded)
+    (coded× (coded_list coded_ℤ) (coded_option reply.the_row.coded)))
     parts_of of_parts of_parts-parts_of

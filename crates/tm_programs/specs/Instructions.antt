@@ -12,8 +12,10 @@ flat (Call object code with next) = instruction.Call object code with ∷ flat n
 flat (Set register value next) = instruction.Set register value ∷ flat next
 flat (Inc register value next) = instruction.Inc register value ∷ flat next
 flat (Repeat turns body next) = instruction.Repeat turns ∷ flat body ++ instruction.End ∷ flat next
-flat (While register how value body next) = instruction.While register how value ∷ flat body ++ instruction.End ∷ flat next
-flat (If register how value body next) = instruction.If register how value ∷ flat body ++ instruction.End ∷ flat next
+flat (While register how value body next) =
+    instruction.While register how value ∷ flat body ++ instruction.End ∷ flat next
+flat (If register how value body next) =
+    instruction.If register how value ∷ flat body ++ instruction.End ∷ flat next
 
 -- A block that isn't ended yet: a loop, with whether it has a call directly in its body so far, or an `if`.
 pub data Block : Type 0 where
@@ -75,7 +77,8 @@ programs_of (instruction.Call object code with ∷ items) = in_front (Call objec
 programs_of (instruction.Set register value ∷ items) = in_front (Set register value) (programs_of items)
 programs_of (instruction.Inc register value ∷ items) = in_front (Inc register value) (programs_of items)
 programs_of (instruction.Repeat turns ∷ items) = around (Repeat turns) (programs_of items)
-programs_of (instruction.While register how value ∷ items) = around (While register how value) (programs_of items)
+programs_of (instruction.While register how value ∷ items) =
+    around (While register how value) (programs_of items)
 programs_of (instruction.If register how value ∷ items) = around (If register how value) (programs_of items)
 programs_of (instruction.End ∷ items) = Over ∷ programs_of items
 
@@ -94,4 +97,6 @@ program_of items = first_of (programs_of items)
 
 -- A program is spelled by its instructions, and by no others that are nested.
 abbrev pub ProgramsAreSpelled : Type 0
-ProgramsAreSpelled = ((p : Program) → program_of (flat p) ≡ p) × ((items : List Instruction) → IsNested items → flat (program_of items) ≡ items)
+ProgramsAreSpelled =
+    ((p : Program) → program_of (flat p) ≡ p)
+    × ((items : List Instruction) → IsNested items → flat (program_of items) ≡ items)

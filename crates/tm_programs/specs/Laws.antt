@@ -16,11 +16,13 @@ HasCall (If register how value body next) = HasCall next
 -- A `repeat` is its body and one turn fewer.
 abbrev pub RepeatsUnfold : Type 0
 RepeatsUnfold = (turns : ℕ) (body next : Program) (registers : List ℤ) → HasCall body
-    → until_call (Repeat (suc turns) body next) registers ≡ until_call (followed body (Repeat turns body next)) registers
+    → until_call (Repeat (suc turns) body next) registers
+    ≡ until_call (followed body (Repeat turns body next)) registers
 
 -- A `while` whose comparison holds is its body and the `while` again, and else what follows it.
 abbrev pub WhilesUnfold : Type 0
-WhilesUnfold = (register : ℕ) (how : Comparison) (value : ℤ) (body next : Program) (registers : List ℤ) → HasCall body
+WhilesUnfold =
+    (register : ℕ) (how : Comparison) (value : ℤ) (body next : Program) (registers : List ℤ) → HasCall body
     → until_call (While register how value body next) registers
     ≡ (if holds how (register_of registers register) value
     then until_call (followed body (While register how value body next)) registers

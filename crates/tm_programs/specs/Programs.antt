@@ -37,6 +37,11 @@ abbrev pub condition_of : Operand → ℕ
 condition_of (operand.Condition condition) = condition
 condition_of other = 0
 
+-- The registers after a number was added to one of them, which stops at the ends of 64 bits.
+abbrev pub added : ℕ → ℤ → List ℤ → List ℤ
+added register value registers =
+    slice_set registers register (saturate_signed w64 (register_of registers register +ℤ value))
+
 -- The value of an operand: a number, or what its register holds; 0 where it has none.
 abbrev pub value_of : List ℤ → Operand → ℤ
 value_of registers (operand.Number value) = value
@@ -60,7 +65,8 @@ register_after code r before = before
 
 -- The registers after the reply to a call.
 abbrev pub registers_after : Opcode → Operand → Reply → List ℤ → List ℤ
-registers_after code (operand.Register r) answer registers = slice_set registers r (register_after code answer (register_of registers r))
+registers_after code (operand.Register r) answer registers =
+    slice_set registers r (register_after code answer (register_of registers r))
 registers_after code with answer registers = registers
 
 -- The comparison holds of a register's value and a number.
@@ -107,20 +113,23 @@ abbrev pub until_call : Program → List ℤ → Remainder
 until_call Over registers = left Over registers
 until_call (Call object code with next) registers = left (Call object code with next) registers
 until_call (Set register value next) registers = until_call next (slice_set registers register value)
-until_call (Inc register value next) registers = until_call next (slice_set registers register (saturate_signed w64 (register_of registers register +ℤ value)))
+until_call (Inc register value next) registers =
+    until_call next (added register value registers)
 until_call (Repeat zero body next) registers = until_call next registers
-until_call (Repeat (suc turns) body next) registers = and_then (until_call body registers) (Repeat turns body next) (λ now. until_call next now)
+until_call (Repeat (suc turns) body next) registers =
+    and_then (until_call body registers) (Repeat turns body next) (λ now. until_call next now)
 until_call (While register how value body next) registers =
     if holds how (register_of registers register) value
-    then and_then (until_call body registers) (While register how value body next) (λ now. until_call next now)
+    then and_then (until_call body registers) (While register how value body next)
+    (λ now. until_call next now)
     else until_call next registers
 until_call (If register how value body next) registers =
     if holds how (register_of registers register) value
     then and_then (until_call body registers) next (λ now. until_call next now)
     else until_call next registers
 
--- What is left of a program as it goes on, with the registers and the last final reply, where there is one. The
--- reply of `begin` is the first.
+-- What is left of a program as it goes on, with the registers and the last final reply, where there is one.
+-- The reply of `begin` is the first.
 pub record Rest : Type 0 where
   pub program : Program
   pub registers : List ℤ
@@ -134,7 +143,8 @@ whole program = record { program = program; registers = first_registers; last = 
 -- program, and after that of a call what follows the call, with its register.
 abbrev pub left_after : Option Reply → Program → List ℤ → Reply → Remainder
 left_after None program registers answer = until_call program registers
-left_after (Some before) (Call object code with next) registers answer = until_call next (registers_after code with answer registers)
+left_after (Some before) (Call object code with next) registers answer =
+    until_call next (registers_after code with answer registers)
 left_after (Some before) program registers answer = left program registers
 
 -- What is left of a program after one more final reply.

@@ -15,51 +15,67 @@ followed-over (Repeat turns body next) = ap (Repeat turns body) (followed-over n
 followed-over (While register how value body next) = ap (While register how value body) (followed-over next)
 followed-over (If register how value body next) = ap (If register how value body) (followed-over next)
 
-pub in_front-whole : (one : Program → Program) (ps : List Program) → in_front one ps ≡ first_of (in_front one ps) ∷ rest_of (in_front one ps)
+pub in_front-whole : (one : Program → Program) (ps : List Program)
+    → in_front one ps ≡ first_of (in_front one ps) ∷ rest_of (in_front one ps)
 in_front-whole one [] = refl
 in_front-whole one (p ∷ ps) = refl
 
-pub around-whole : (block : Program → Program → Program) (ps : List Program) → around block ps ≡ first_of (around block ps) ∷ rest_of (around block ps)
+pub around-whole : (block : Program → Program → Program) (ps : List Program)
+    → around block ps ≡ first_of (around block ps) ∷ rest_of (around block ps)
 around-whole block [] = refl
 around-whole block (body ∷ []) = refl
 around-whole block (body ∷ next ∷ ps) = refl
 
 -- instructions spell a first program at least
-pub programs_of-whole : (items : List Instruction) → programs_of items ≡ first_of (programs_of items) ∷ rest_of (programs_of items)
+pub programs_of-whole : (items : List Instruction)
+    → programs_of items ≡ first_of (programs_of items) ∷ rest_of (programs_of items)
 programs_of-whole [] = refl
-programs_of-whole (instruction.Call object code with ∷ items) = in_front-whole (Call object code with) (programs_of items)
-programs_of-whole (instruction.Set register value ∷ items) = in_front-whole (Set register value) (programs_of items)
-programs_of-whole (instruction.Inc register value ∷ items) = in_front-whole (Inc register value) (programs_of items)
+programs_of-whole (instruction.Call object code with ∷ items) =
+    in_front-whole (Call object code with) (programs_of items)
+programs_of-whole (instruction.Set register value ∷ items) =
+    in_front-whole (Set register value) (programs_of items)
+programs_of-whole (instruction.Inc register value ∷ items) =
+    in_front-whole (Inc register value) (programs_of items)
 programs_of-whole (instruction.Repeat turns ∷ items) = around-whole (Repeat turns) (programs_of items)
-programs_of-whole (instruction.While register how value ∷ items) = around-whole (While register how value) (programs_of items)
-programs_of-whole (instruction.If register how value ∷ items) = around-whole (If register how value) (programs_of items)
+programs_of-whole (instruction.While register how value ∷ items) =
+    around-whole (While register how value) (programs_of items)
+programs_of-whole (instruction.If register how value ∷ items) =
+    around-whole (If register how value) (programs_of items)
 programs_of-whole (instruction.End ∷ items) = refl
 
 -- the programs of a program's instructions with others after them
 abbrev pub Reads : List Instruction → Program → Type 0
-Reads items p = programs_of (flat p ++ items) ≡ followed p (first_of (programs_of items)) ∷ rest_of (programs_of items)
+Reads items p =
+    programs_of (flat p ++ items) ≡ followed p (first_of (programs_of items)) ∷ rest_of (programs_of items)
 
 around-flat : (block : Program → Program → Program) (items : List Instruction) (body next : Program)
     → Reads (instruction.End ∷ flat next ++ items) body → Reads items next
     → around block (programs_of ((flat body ++ instruction.End ∷ flat next) ++ items))
     ≡ block body (followed next (first_of (programs_of items))) ∷ rest_of (programs_of items)
 around-flat block items body next inner outer =
-    ap (λ (xs : List Instruction). around block (programs_of xs)) (append_assoc (flat body) (instruction.End ∷ flat next) items)
+    ap (λ (xs : List Instruction). around block (programs_of xs))
+    (append_assoc (flat body) (instruction.End ∷ flat next) items)
     ∙ ap (around block) inner
     ∙ ap (λ (ps : List Program). around block (followed body Over ∷ ps)) outer
-    ∙ ap (λ (b : Program). block b (followed next (first_of (programs_of items))) ∷ rest_of (programs_of items)) (followed-over body)
+    ∙ ap (λ (b : Program). block b (followed next (first_of (programs_of items))) ∷ rest_of (programs_of items))
+    (followed-over body)
 
 pub programs_of-flat : (items : List Instruction) (p : Program) → Reads items p
 programs_of-flat items Over = programs_of-whole items
-programs_of-flat items (Call object code with next) = ap (in_front (Call object code with)) (programs_of-flat items next)
-programs_of-flat items (Set register value next) = ap (in_front (Set register value)) (programs_of-flat items next)
-programs_of-flat items (Inc register value next) = ap (in_front (Inc register value)) (programs_of-flat items next)
+programs_of-flat items (Call object code with next) =
+    ap (in_front (Call object code with)) (programs_of-flat items next)
+programs_of-flat items (Set register value next) =
+    ap (in_front (Set register value)) (programs_of-flat items next)
+programs_of-flat items (Inc register value next) =
+    ap (in_front (Inc register value)) (programs_of-flat items next)
 programs_of-flat items (Repeat turns body next) =
     around-flat (Repeat turns) items body next (programs_of-flat _ body) (programs_of-flat items next)
 programs_of-flat items (While register how value body next) =
-    around-flat (While register how value) items body next (programs_of-flat _ body) (programs_of-flat items next)
+    around-flat (While register how value) items body next (programs_of-flat _ body)
+    (programs_of-flat items next)
 programs_of-flat items (If register how value body next) =
-    around-flat (If register how value) items body next (programs_of-flat _ body) (programs_of-flat items next)
+    around-flat (If register how value) items body next (programs_of-flat _ body)
+    (programs_of-flat items next)
 
 pub append-nil : (items : List Instruction) → items ++ [] ≡ items
 append-nil [] = refl

@@ -1,7 +1,7 @@
 ghost use Rattle.std.specs.Prelude.{◌≡◌, ◌<◌, ◌^◌, IfSome, Some, [], IfOk, MatchOption, slice_get};
 ghost use Rattle.tm_programs.specs.declared.instructions.Instruction.{Instruction as Line};
 ghost use Rattle.tm_programs.specs.Instructions.{IsNested};
-ghost use Rattle.tm_programs.specs.Running.{ExitsAre, IsAsking, IsExit, Opens};
+ghost use Rattle.tm_programs.specs.Running.{ExitsAre, IsAsking, IsExit, IsLocalAt, Opens};
 
 use crate::{Instruction, MOST_BLOCKS};
 use arrayvec::ArrayVec;
@@ -62,7 +62,7 @@ impl Code {
 
     /// The instruction, unless it is a call.
     pub(crate) fn local_at(&self, place: usize) -> Option<Instruction>
-        ensures value { MatchOption result (IsAsking (slice_get self.now place)) (λ i. (slice_get self.now place ≡ Some i) × (IsAsking (Some i) → ⊥)) }
+        ensures value { MatchOption result (IsAsking (slice_get self.now place)) (IsLocalAt self.now place) }
         ensures small { IfSome result (λ _. place < 2 ^ 63) }
     {
         match self.at(place) {

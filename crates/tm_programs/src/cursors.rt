@@ -1,9 +1,9 @@
-ghost use Rattle.std.specs.Prelude.{◌≡◌, ◌^◌, List, [], ◌∷◌, ◌++◌, ◌<◌, ◌≤◌, length, Some, slice_get};
-ghost use Rattle.tm_base.specs.declared.replies.Reply.{Reply as Answer};
-ghost use Rattle.tm_programs.specs.declared.cursors.OpenBlock.{OpenBlock as Block};
+ghost use Rattle.std.specs.Prelude.{◌≡◌, ◌^◌, [], ◌<◌, ◌≤◌, length, slice_get};
 ghost use Rattle.tm_programs.specs.Instructions.{IsNested};
-ghost use Rattle.tm_programs.specs.Programs.{first_registers, left, left_after, next_ask, until_call};
-ghost use Rattle.tm_programs.specs.Running.{IsAsking, IsResting, Stands, Steps, entered, left_block, program_left, repeated, with_blocks};
+ghost use Rattle.tm_programs.specs.Programs.{first_registers};
+ghost use Rattle.tm_programs.specs.Running.{IsAsking, IsLocalAt, IsResting, Leaves, Stands, Steps};
+ghost use Rattle.tm_programs.specs.Running.{accepted_at, ask_at, chosen, entered, remainder_at, repeated};
+ghost use Rattle.tm_programs.specs.Running.{settled_at};
 
 use crate::code::Code;
 use crate::registers::Registers;
@@ -26,8 +26,8 @@ impl Default for OpenBlock {
     }
 }
 
-/// Where a program stands: the place of its next instruction, the registers, and the open blocks, the innermost
-/// last.
+/// Where a program stands: the place of its next instruction, the registers, and the open blocks, from the
+/// outermost on.
 #[derive(Drop)]
 pub(crate) struct Cursor {
     pub(crate) place: usize,
@@ -52,7 +52,7 @@ impl Cursor {
     pub(crate) fn ask(&self, code: &Code, last: Option<Reply>) -> Ask
         requires stands { Stands code.now self.now }
         requires resting { IsResting code.now self.now last }
-        ensures { result ≡ next_ask (program_left code.now self.now) self.now.registers }
+        ensures { result ≡ ask_at code.now self.now }
     {
         let Some(instruction) = code.at(self.place) else {
             return Ask::Over;
@@ -74,7 +74,7 @@ impl Cursor {
     pub(crate) fn accept(&mut self, code: &Code, last: Option<Reply>, reply: Reply)
         requires stands { Stands code.now self.old }
         requires resting { IsResting code.now self.old last }
-        ensures left { until_call (program_left code.now self.new) self.new.registers ≡ left_after last (program_left code.now self.old) self.old.registers reply }
+        ensures left { settled_at code.now self.new ≡ accepted_at code.now self.old last reply }
         ensures stands { Stands code.now self.new }
     {
         if last.is_none() {
@@ -98,7 +98,7 @@ impl Cursor {
     pub(crate) fn settle(&mut self, code: &Code)
         requires nested { IsNested code.now }
         requires stands { Stands code.now self.old }
-        ensures left { left (program_left code.now self.new) self.new.registers ≡ until_call (program_left code.now self.old) self.old.registers }
+        ensures left { remainder_at code.now self.new ≡ settled_at code.now self.old }
         ensures stands { Stands code.now self.new }
         ensures asking { IsAsking (slice_get code.now self.new.place) }
     {
@@ -112,8 +112,7 @@ impl Cursor {
         requires nested { IsNested code.now }
         requires stands { Stands code.now self.old }
         requires small { self.old.place < 2 ^ 63 }
-        requires here { slice_get code.now self.old.place ≡ Some instruction }
-        requires local { IsAsking (Some instruction) → ⊥ }
+        requires local { IsLocalAt code.now self.old.place instruction }
         ensures { Steps code.now self.old self.new }
     {
         let (place, next) = (self.place, self.place + 1);
@@ -124,8 +123,7 @@ impl Cursor {
                 self.place = next;
             }
             Instruction::Inc { register, value } => {
-                let sum = self.registers.get(register).saturating_add(value);
-                self.registers.set(register, sum);
+                self.registers.add(register, value);
                 self.place = next;
             }
             Instruction::Repeat { turns } => self.repeat(turns, next, code.exit(place)),
@@ -134,24 +132,19 @@ impl Cursor {
                 comparison,
                 value,
             } => {
-                let exit = code.exit(place);
-                if comparison.holds(self.registers.get(register), value) {
-                    self.enter(next, OpenBlock::Once { next: place });
-                } else {
-                    self.place = exit;
-                }
+                let again = self.registers.meets(register, comparison, value);
+                self.choose(again, next, place, code.exit(place));
             }
             Instruction::If {
                 register,
                 comparison,
                 value,
             } => {
-                let exit = code.exit(place);
-                if comparison.holds(self.registers.get(register), value) {
-                    self.enter(next, OpenBlock::Once { next: exit });
-                } else {
-                    self.place = exit;
-                }
+                let (taken, exit) = (
+                    self.registers.meets(register, comparison, value),
+                    code.exit(place),
+                );
+                self.choose(taken, next, exit, exit);
             }
             Instruction::End => self.leave(),
         }
@@ -168,6 +161,18 @@ impl Cursor {
         }
     }
 
+    /// Goes into a block where its comparison holds, and else past it. After the block it goes on at `next`.
+    fn choose(&mut self, holds: bool, body: usize, next: usize, exit: usize)
+        requires { length self.old.blocks.items < MOST_BLOCKS }
+        ensures { self.new ≡ chosen holds body next exit self.old }
+    {
+        if holds {
+            self.enter(body, OpenBlock::Once { next });
+        } else {
+            self.place = exit;
+        }
+    }
+
     /// Goes into a block.
     fn enter(&mut self, body: usize, block: OpenBlock)
         requires { length self.old.blocks.items < MOST_BLOCKS }
@@ -180,7 +185,7 @@ impl Cursor {
     /// Goes on at the end of the innermost block.
     fn leave(&mut self)
         requires { length self.old.blocks.items ≤ MOST_BLOCKS }
-        ensures { (blocks : List Block) (block : Block) → self.old.blocks.items ≡ blocks ++ block ∷ [] → self.new ≡ left_block block (with_blocks blocks self.old) }
+        ensures { Leaves self.old self.new }
     {
         match self.blocks.pop() {
             Some(OpenBlock::Once { next }) => self.place = next,

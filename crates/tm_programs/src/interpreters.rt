@@ -26,15 +26,16 @@ impl Model for Interpreter {
     ghost coded = { rest_code };
 
     ghost use Rattle.tm_programs.specs.Instructions.{IsNested};
-    ghost use Rattle.tm_programs.specs.Running.{IsResting, Stands, program_left};
+    ghost use Rattle.tm_programs.specs.Running.{IsResting, Stands, rest_at};
 
-    ghost view = { λ i. record { program = program_left i.code i.cursor; registers = i.cursor.registers; last = i.last } };
+    ghost view = { λ i. rest_at i.code i.cursor i.last };
 
     ghost invariant = { λ i. IsNested i.code × Stands i.code i.cursor × IsResting i.code i.cursor i.last };
 }
 
 impl Interpreter {
-    /// The program that these instructions spell, of which nothing was answered yet. Nothing later takes memory.
+    /// The program that these instructions spell, of which nothing was answered yet. Nothing later takes
+    /// memory.
     pub fn make(alloc: Global, instructions: &[Instruction]) -> Result<Interpreter, NoMemory>
         requires nested { IsNested instructions.now }
         ensures { IfOk result (λ i. i ≡ whole (program_of instructions.now)) }

@@ -1,7 +1,8 @@
 ghost use Rattle.std.specs.Prelude.{◌≡◌, slice_set};
-ghost use Rattle.tm_programs.specs.Programs.{first_registers, op_of, register_of, registers_after, value_of};
+ghost use Rattle.tm_programs.specs.Programs.{added, first_registers, holds};
+ghost use Rattle.tm_programs.specs.Programs.{op_of, register_of, registers_after};
 
-use crate::{Instruction, Operand};
+use crate::{Comparison, Operand};
 use std::marker::Model;
 use tm_base::{Op, Opcode, Reply};
 
@@ -40,6 +41,20 @@ impl Registers {
         if place < self.values.len() {
             self.values[place] = value;
         }
+    }
+
+    /// Adds to a register, which stops at the ends of 64 bits.
+    pub(crate) fn add(&mut self, register: u8, value: i64)
+        ensures { self.new ≡ added register value self.old }
+    {
+        self.set(register, self.get(register).saturating_add(value));
+    }
+
+    /// The comparison holds of a register and the number.
+    pub(crate) fn meets(&self, register: u8, comparison: Comparison, value: i64) -> bool
+        ensures { result ≡ holds comparison (register_of self.now register) value }
+    {
+        comparison.holds(self.get(register), value)
     }
 
     /// The operation of a call, with its operand's value now.

@@ -5,7 +5,8 @@ use Rattle.tm_programs.proofs.cursors.Cursor.settle.Given as goal
 
 abbrev pub invariant-loop-instruction : goal.invariant-loop-instruction
 invariant-loop-instruction l = record {
-  same : until_call (program_left l.code l.self) l.self.registers ≡ until_call (program_left l.code l.initial.self) l.initial.self.registers;
+  same : until_call (program_left l.code l.self) l.self.registers ≡ until_call
+      (program_left l.code l.initial.self) l.initial.self.registers;
   stands : Stands l.code l.self;
 }
 
