@@ -3,3 +3,4 @@ pub mod Setting
 pub mod CommandLineReader
 pub mod Judged
 pub mod Told
+pub mod Limited

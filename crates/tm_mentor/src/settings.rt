@@ -2,7 +2,7 @@ ghost use Rattle.std.specs.Prelude.{◌≡◌, ◌∷◌, [], ◌^◌, ◌≤◌
 ghost use Rattle.tm_mentor.specs.CommandLine.{IsNumber, Spells};
 ghost use Rattle.tm_mentor.specs.ChosenSettings.{chosen_with, rules_from};
 
-use tm_session::Rules;
+use tm_session::{MOST_CALLS, Rules};
 
 /// What an option sets.
 #[derive(Clone, Copy, Debug, PartialEq, Eq)]
@@ -32,7 +32,7 @@ const USUAL_EVENTS: u32 = 1_000;
 const FEWEST_EVENTS: u64 = 1;
 
 /// The most calls that may be set.
-const MOST_EVENTS: u64 = 10_000;
+const MOST_EVENTS: u64 = MOST_CALLS as u64;
 
 impl Chosen {
     /// With one setting more. `None` where its kind was set before.

@@ -11,7 +11,8 @@ use Rattle.tm_laws.proofs.RunsLemmas.{Leads-split}
 use Rattle.tm_text.specs.Exercises.{ExerciseView}
 use Rattle.tm_text.specs.declared.exercises.Declaration.{Declaration}
 use Rattle.tm_replay.specs.declared.phases.Phase.TheVariants as phase
-use Rattle.tm_replay.specs.JointStates.{JointState, ThreadState, ObjectState, start, first_object_state, first_thread_state}
+use Rattle.tm_replay.specs.JointStates.{JointState, ThreadState, ObjectState, start, first_object_state, first_thread_state, unbegun}
+use Rattle.tm_programs.specs.Programs.{Over}
 use Rattle.tm_replay.specs.JointSteps.{JointStep, IsJointRun, stepped, entered}
 use Rattle.tm_replay.proofs.Lists.{slice_get-set_cases, filter-snoc_in, filter-snoc_out, Contains-parts}
 use Rattle.tm_replay.proofs.JointStartLemmas.{mapped-at}
@@ -203,10 +204,10 @@ module _ (x : ExerciseView) where
 
   thread-none : (t next stamp : ℕ) → KnowsThread (start x) t next stamp → (next ≡ 1) × (stamp ≡ 0)
   thread-none zero next stamp knows =
-      let main : first_thread_state phase.Main [] ≡ knows.0 = let found = knows.1 in cc in
+      let main : first_thread_state phase.Main Over ≡ knows.0 = let found = knows.1 in cc in
       (knows.2 ∙ ap (λ (s : ThreadState). s.next) (sym main), knows.3 ∙ ap (λ (s : ThreadState). s.stamp) (sym main))
   thread-none (suc t) next stamp knows =
-      let at = (mapped-at (first_thread_state phase.NotBegun) x.programs t knows.0 knows.1).2 in
+      let at = (mapped-at unbegun x.programs t knows.0 knows.1).2 in
       (knows.2 ∙ ap (λ (s : ThreadState). s.next) (sym at), knows.3 ∙ ap (λ (s : ThreadState). s.stamp) (sym at))
 
   -- the object has this next place and this last stamp

@@ -1,5 +1,5 @@
 -- What a program thread's event is, and what it makes of the thread.
-use Rattle.std.proofs.Common.{◌≡◌, ℕ, zero, suc, ◌+◌, Bool, true, false, inl, inr, List, [], ◌∷◌, drop, Some, None, slice_get, if◌then◌else◌, refl, ap, sym, ◌∙◌, arith}
+use Rattle.std.proofs.Common.{◌≡◌, ℕ, ℤ, pos, Bool, true, false, ◌&&◌, inl, inr, List, Option, Some, None, slice_get, if◌then◌else◌, refl, ap, sym, ◌∙◌, subst}
 use Rattle.tm_base.specs.declared.operations.Op.{Op}
 use Rattle.tm_base.specs.declared.operations.Op.TheVariants as op
 use Rattle.tm_base.specs.declared.replies.Reply.{Reply}
@@ -8,15 +8,18 @@ use Rattle.tm_base.specs.declared.kinds.Kind.{Kind}
 use Rattle.tm_base.specs.declared.kinds.Kind.TheVariants as kind
 use Rattle.tm_base.specs.declared.asks.Ask.{Ask}
 use Rattle.tm_base.specs.declared.asks.Ask.TheVariants as ask
+use Rattle.tm_base.specs.declared.opcodes.Opcode.{Opcode}
+use Rattle.tm_base.specs.declared.opcodes.Opcode.TheVariants as opcode
 use Rattle.tm_base.specs.Fits.{fits}
+use Rattle.tm_base.specs.Opcodes.{op_with}
 use Rattle.tm_laws.specs.Counts.{is_wait}
 use Rattle.tm_laws.specs.Tidy.{is_stop}
 use Rattle.tm_laws.specs.ThreadObjects.{is_begin, is_end}
 use Rattle.tm_text.specs.declared.exercises.Declaration.{Declaration}
-use Rattle.tm_text.specs.declared.exercises.Statement.{Statement}
-use Rattle.tm_text.specs.declared.exercises.Statement.TheVariants as statement
-use Rattle.tm_text.specs.Exercises.{ExerciseView, IsWellFormed, IsStatement, IsOfKind, program_of}
-use Rattle.tm_text.specs.Programs.{Rest, answered, is_stopped, next_ask}
+use Rattle.tm_programs.specs.declared.instructions.Operand.{Operand}
+use Rattle.tm_programs.specs.Calls.{AllCallsPass}
+use Rattle.tm_text.specs.Exercises.{ExerciseView, is_asked, is_call_of, is_call_on}
+use Rattle.tm_programs.specs.Programs.{Program, Call, Rest, answered, condition_of, is_stopped, next_ask, op_of, value_of}
 use Rattle.tm_replay.specs.declared.phases.Phase.{Phase}
 use Rattle.tm_replay.specs.declared.phases.Phase.TheVariants as phase
 use Rattle.tm_replay.specs.JointSteps.{MayIn, MayAsk, is_call, phase_by, rest_by}
@@ -26,18 +29,18 @@ use Rattle.tm_replay.specs.SoundStates.{is_main}
 pub data Does : ℕ → Phase → Rest → ℕ → Op → Type 0 where
   begins : {own object : ℕ} {p : Phase} {rest : Rest} {o : Op} → p ≡ phase.NotBegun → object ≡ own → o ≡ op.Begin → Does own p rest object o
   ends : {own object : ℕ} {p : Phase} {rest : Rest} {o : Op} → p ≡ phase.Free → object ≡ own → (cut : Bool) → o ≡ op.End cut → Does own p rest object o
-  calls : {own object : ℕ} {p : Phase} {rest : Rest} {o : Op} → p ≡ phase.Free → next_ask rest.left ≡ ask.Call object o → Does own p rest object o
+  calls : {own object : ℕ} {p : Phase} {rest : Rest} {o : Op} → p ≡ phase.Free → next_ask rest.program rest.registers ≡ ask.Call object o → Does own p rest object o
   resumes : {own object : ℕ} {p : Phase} {rest : Rest} {o : Op} → p ≡ phase.Waits object → o ≡ op.Resume → Does own p rest object o
 
-asks : (own : ℕ) (rest : Rest) (object : ℕ) (o : Op) (a : Ask) → next_ask rest.left ≡ a → MayAsk own (Some a) object o → Does own phase.Free rest object o
+asks : (own : ℕ) (rest : Rest) (object : ℕ) (o : Op) (a : Ask) → next_ask rest.program rest.registers ≡ a → MayAsk own (Some a) object o → Does own phase.Free rest object o
 asks own rest object o (ask.Call object' o') e (inl same) = calls refl (e ∙ ap (λ n. ask.Call n o') (sym same.0) ∙ ap (ask.Call object) (sym same.1))
 asks own rest object o (ask.Call object' o') e (inr cut) = ends refl cut.0 true cut.1
 asks own rest object o ask.Over e over = ends refl over.0 false over.1
 
 free : (own : ℕ) (rest : Rest) (object : ℕ) (o : Op) (stopped : Bool)
-    → MayAsk own (if stopped then None else Some (next_ask rest.left)) object o → Does own phase.Free rest object o
+    → MayAsk own (if stopped then None else Some (next_ask rest.program rest.registers)) object o → Does own phase.Free rest object o
 free own rest object o true may = ends refl may.0 true may.1
-free own rest object o false may = asks own rest object o (next_ask rest.left) refl may
+free own rest object o false may = asks own rest object o (next_ask rest.program rest.registers) refl may
 
 pub may-does : (own : ℕ) (p : Phase) (rest : Rest) (object : ℕ) (o : Op) → is_main p ≡ false → MayIn own p rest object o → Does own p rest object o
 may-does own phase.Main rest object o main may = absurd cc
@@ -53,30 +56,46 @@ pub record IsAsked (x : ExerciseView) (object : ℕ) (o : Op) : Type 0 where
   pub call : is_call o ≡ true
   pub fit : fits o declaration.kind ≡ true
 
-asked-fit : (x : ExerciseView) (object : ℕ) (o : Op) (k : Kind) → is_call o ≡ true → fits o k ≡ true → IsOfKind x.objects object k → IsAsked x object o
-asked-fit x object o k call fit h = record { declaration = h.0; found = h.1; call = call; fit = ap (fits o) h.2 ∙ fit }
+and_both : (a b : Bool) → (a && b) ≡ true → (a ≡ true) × (b ≡ true)
+and_both true b h = (refl, h)
+and_both false b h = absurd cc
 
-asked-statement : (x : ExerciseView) (object : ℕ) (o : Op) → IsStatement x.objects (statement.Call object o) → IsAsked x object o
-asked-statement x object op.Lock h = asked-fit x object op.Lock kind.Mutex refl refl h
-asked-statement x object op.Unlock h = asked-fit x object op.Unlock kind.Mutex refl refl h
-asked-statement x object o h = elim h [ ]
+-- the value of a call makes no difference to whether its object has it
+fits-value : (code : Opcode) (c : ℕ) (v w : ℤ) (k : Kind) → fits (op_with code c v) k ≡ fits (op_with code c w) k
+fits-value opcode.Send c v w kind.Sync = refl
+fits-value opcode.Send c v w (kind.Async n) = refl
+fits-value opcode.Write c v w (kind.Var n) = refl
+fits-value opcode.Add c v w (kind.Var n) = refl
+fits-value code c v w k = refl
 
-first_of_left : (left : List Statement) (object : ℕ) (o : Op) → next_ask left ≡ ask.Call object o → slice_get left 0 ≡ Some (statement.Call object o)
-first_of_left [] object o e = absurd cc
-first_of_left (statement.Call a b ∷ left) object o e = let same : (statement.Call a b) ≡ statement.Call object o = cc in ap Some same
+-- what a program can ask is a call
+asked-call : (code : Opcode) (c : ℕ) (v : ℤ) → is_asked code ≡ true → is_call (op_with code c v) ≡ true
+asked-call opcode.Begin c v e = absurd cc
+asked-call opcode.End c v e = absurd cc
+asked-call opcode.Resume c v e = absurd cc
+asked-call opcode.Stop c v e = absurd cc
+asked-call code c v e = refl
 
-slice_get-drop : {A : Type 0} (xs : List A) (n k : ℕ) → slice_get (drop n xs) k ≡ slice_get xs (n + k)
-slice_get-drop xs zero k = let e : k ≡ 0 + k = omega arith in ap (slice_get xs) e
-slice_get-drop [] (suc n) k = refl
-slice_get-drop (x ∷ xs) (suc n) k = let e : suc (n + k) ≡ suc n + k = omega arith in slice_get-drop xs n k ∙ ap (slice_get (x ∷ xs)) e
+asked-of : (x : ExerciseView) (object : ℕ) (code : Opcode) (with : Operand) (registers : List ℤ) (found : Option Declaration)
+    → slice_get x.objects object ≡ found → is_call_of found code with ≡ true → IsAsked x object (op_of registers code with)
+asked-of x object code with registers None e h = absurd cc
+asked-of x object code with registers (Some d) e h =
+    let both = and_both (is_asked code) (fits (op_with code (condition_of with) (pos 0)) d.kind) h in
+    record {
+      declaration = d;
+      found = e;
+      call = asked-call code (condition_of with) (value_of registers with) both.0;
+      fit = fits-value code (condition_of with) (value_of registers with) (pos 0) d.kind ∙ both.1;
+    }
 
-pub asked-well_formed : (x : ExerciseView) → IsWellFormed x → (t done : ℕ) (left : List Statement) → left ≡ drop done (program_of x t)
-    → (object : ℕ) (o : Op) → next_ask left ≡ ask.Call object o → IsAsked x object o
-asked-well_formed x h t done left e object o asked =
-    let first : slice_get left 0 ≡ Some (statement.Call object o) = first_of_left left object o asked in
-    let there : slice_get (program_of x t) (done + 0) ≡ Some (statement.Call object o) =
-    sym (slice_get-drop (program_of x t) done 0) ∙ ap (λ l. slice_get l 0) (sym e) ∙ first in
-    asked-statement x object o (h.statements t (done + 0) (statement.Call object o) there)
+-- a program whose calls fit asks such a call
+pub asked-called : (x : ExerciseView) (p : Program) (registers : List ℤ) (object : ℕ) (o : Op)
+    → AllCallsPass (is_call_on x.objects) p → next_ask p registers ≡ ask.Call object o → IsAsked x object o
+asked-called x (Call a code with next) registers object o h e =
+    let at : a ≡ object = cc in
+    let does : op_of registers code with ≡ o = cc in
+    subst (λ n. IsAsked x n o) at (subst (λ (q : Op). IsAsked x a q) does (asked-of x a code with registers (slice_get x.objects a) refl h.0))
+asked-called x p registers object o h e = absurd cc
 
 -- what an operation and its reply make of the thread
 pub data Becomes : Op → Reply → ℕ → Rest → Type 0 where

@@ -10,7 +10,8 @@ use Rattle.tm_laws.proofs.RunsLemmas.{Leads-snoc}
 use Rattle.tm_text.specs.declared.exercises.Declaration.{Declaration}
 use Rattle.tm_text.specs.Exercises.{ExerciseView}
 use Rattle.tm_replay.specs.declared.phases.Phase.TheVariants as phase
-use Rattle.tm_replay.specs.JointStates.{JointState, ThreadState, ObjectState, start, first_object_state, first_thread_state}
+use Rattle.tm_replay.specs.JointStates.{JointState, ThreadState, ObjectState, start, first_object_state, first_thread_state, unbegun}
+use Rattle.tm_programs.specs.Programs.{Over}
 use Rattle.tm_replay.specs.JointSteps.{JointStep, IsJointRun, stepped, entered}
 use Rattle.tm_replay.specs.Projections.{label_at, history_state_at}
 use Rattle.tm_replay.proofs.Lists.{slice_get-set_cases, filter-snoc_in, filter-snoc_out, range-snoc}
@@ -76,10 +77,10 @@ HavePlaces es j = (t : ℕ) (s : ThreadState) → slice_get j.threads t ≡ Some
 
 places-start : (x : ExerciseView) → HavePlaces [] (start x)
 places-start x zero s h =
-    let main : first_thread_state phase.Main [] ≡ s = cc in
+    let main : first_thread_state phase.Main Over ≡ s = cc in
     subst (λ (r : ThreadState). RunFromOne [] r.next) main (refl, refl)
 places-start x (suc t) s h =
-    subst (λ (r : ThreadState). RunFromOne [] r.next) (mapped-at (first_thread_state phase.NotBegun) x.programs t s h).2 (refl, refl)
+    subst (λ (r : ThreadState). RunFromOne [] r.next) (mapped-at unbegun x.programs t s h).2 (refl, refl)
 
 -- an event with the next place goes on with them
 RunFromOne-snoc : (own : List Entry) (next : ℕ) (e : Entry) → e.place ≡ next → RunFromOne own next → RunFromOne (own ++ e ∷ []) (e.place + 1)

@@ -24,7 +24,7 @@ use Rattle.tm_replay.specs.Bars.{bar_of, bar_in, bar_for, is_runnable, waits_in}
 use Rattle.tm_replay.specs.RunnableThreads.{IsAnswerable}
 use Rattle.tm_replay.specs.SoundStates.{is_main, IsSoundJoint, IsObjectStateOf, IsAmong, is_begun, is_past, waits_at}
 use Rattle.tm_replay.proofs.Lists.{found_at}
-use Rattle.tm_replay.proofs.Moves.{Does, begins, ends, calls, resumes, may-does, asked-well_formed}
+use Rattle.tm_replay.proofs.Moves.{Does, begins, ends, calls, resumes, may-does, asked-called}
 
 -- a call in turn is answered
 CanStep-answers : (h : ObjectView) (t : ℕ) (o : Op) → CanStep h t o → CanAnswer h t o
@@ -84,7 +84,7 @@ module _ (x : ExerciseView) (j : JointState) (formed : IsWellFormed x) (sound : 
       go (ends p e cut b) = own e
       go (calls p asked) =
           let stands = sound.threads t s seat in
-          let a = asked-well_formed x formed t stands.done s.rest.left stands.left object o asked in
+          let a = asked-called x s.rest.program s.rest.registers object o stands.calls asked in
           slice_get_within x.objects object a.declaration a.found
       go (resumes p b) = subst (λ (q : Phase). IsAmong q (length x.objects)) p (sound.threads t s seat).among
 
@@ -134,7 +134,7 @@ module _ (x : ExerciseView) (j : JointState) (formed : IsWellFormed x) (sound : 
         }))
         go (calls p asked) =
             let stands = sound.threads t s seat in
-            let a = asked-well_formed x formed t stands.done s.rest.left stands.left object o asked in
+            let a = asked-called x s.rest.program s.rest.registers object o stands.calls asked in
             CanStep-answers b.view t o (record {
               program = program;
               known = few;

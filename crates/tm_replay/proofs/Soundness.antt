@@ -1,11 +1,9 @@
 -- A joint step leads from a sound joint state to a sound one.
-use Rattle.std.proofs.Common.{◌≡◌, ◌≢◌, ℕ, ◌+◌, ◌<◌, ◌≤◌, Bool, true, false, ◌||◌, ◌==◌, ◌⊎◌, inl, inr, ⊎_elim, if◌then◌else◌, List, drop, length, Option, Some, None, IsSome, slice_get, refl, ap, sym, ◌∙◌, subst, arith, eq-eqb, ne_eqb, length-set}
+use Rattle.std.proofs.Common.{◌≡◌, ◌≢◌, ℕ, ◌<◌, ◌≤◌, Bool, true, false, ◌||◌, ◌==◌, ◌⊎◌, inl, inr, ⊎_elim, if◌then◌else◌, List, length, Some, IsSome, slice_get, refl, ap, sym, ◌∙◌, subst, arith, eq-eqb, ne_eqb, length-set}
 use Rattle.std.proofs.lemmas.Bool.{cases_Bool, cases_eq, false≢true}
-use Rattle.std.proofs.lemmas.List.{drop-drop}
 use Rattle.std.proofs.lemmas.Option.{slice_get_within}
 use Rattle.tm_base.specs.declared.operations.Op.{Op}
 use Rattle.tm_base.specs.declared.operations.Op.TheVariants as op
-use Rattle.tm_base.specs.declared.replies.Reply.{Reply}
 use Rattle.tm_base.specs.declared.events.Entry.{Entry}
 use Rattle.tm_base.specs.States.{KindState, is_pending}
 use Rattle.tm_base.specs.Histories.{Lawful}
@@ -14,8 +12,10 @@ use Rattle.tm_laws.specs.Tidy.{Moves, is_stop}
 use Rattle.tm_laws.specs.ThreadObjects.{has_begun, has_ended, is_begin, is_end}
 use Rattle.tm_laws.proofs.LawfulMoves.{Lawful-moves}
 use Rattle.tm_laws.proofs.Begun.{Noted, Lawful-noted, End-plain}
-use Rattle.tm_text.specs.Exercises.{ExerciseView, IsWellFormed, program_of, own_of, thread_of}
-use Rattle.tm_text.specs.Programs.{Rest, answered, left_after}
+use Rattle.tm_text.specs.Exercises.{ExerciseView, IsWellFormed, is_call_on, own_of, thread_of}
+use Rattle.tm_programs.specs.Programs.{Rest}
+use Rattle.tm_programs.specs.Calls.{AllCallsPass}
+use Rattle.tm_programs.proofs.CallsLemmas.{AllCalls-answered}
 use Rattle.tm_text.proofs.Owns.{own_of-found}
 use Rattle.tm_replay.specs.declared.phases.Phase.{Phase}
 use Rattle.tm_replay.specs.declared.phases.Phase.TheVariants as phase
@@ -23,7 +23,7 @@ use Rattle.tm_replay.specs.JointStates.{JointState, ThreadState, ObjectState}
 use Rattle.tm_replay.specs.JointSteps.{JointStep, MayIn, stepped, entered, phase_by, phase_after, rest_by}
 use Rattle.tm_replay.specs.SoundStates.{IsSoundJoint, IsObjectStateOf, IsThreadStateOf, IsAnswered, IsAmong, is_main, is_begun, is_past, waits_at}
 use Rattle.tm_replay.proofs.Lists.{slice_get-set_cases}
-use Rattle.tm_replay.proofs.Moves.{Does, begins, ends, calls, resumes, may-does, Becomes, finished, waiting, freed, becomes, call-no_stop, call-no_life, asked-well_formed}
+use Rattle.tm_replay.proofs.Moves.{Does, begins, ends, calls, resumes, may-does, Becomes, finished, waiting, freed, becomes, call-no_stop, call-no_life, asked-called}
 
 -- the phase of a program thread is that of its operation and reply
 phase_after-plain : (p : Phase) (e : Entry) → is_main p ≡ false → phase_after p e ≡ phase_by e.op e.reply e.object
@@ -44,14 +44,6 @@ is_main-phase phase.NotBegun h = absurd cc
 is_main-phase phase.Free h = absurd cc
 is_main-phase (phase.Waits o) h = absurd cc
 is_main-phase (phase.Ended cut) h = absurd cc
-
--- where the left part is the end of a program, it still is after an answer
-answered-left : (program : List _) (rest : Rest) (r : Reply) → (done : ℕ) → rest.left ≡ drop done program → (more : ℕ) × ((answered rest r).left ≡ drop more program)
-answered-left program rest r done e = by_last rest.last refl
-  where
-    by_last : (last : Option Reply) → rest.last ≡ last → (more : ℕ) × (left_after rest.last rest.left ≡ drop more program)
-    by_last None same = (done, ap (λ l. left_after l rest.left) same ∙ e)
-    by_last (Some q) same = (done + 1, ap (λ l. left_after l rest.left) same ∙ ap (drop 1) e ∙ drop-drop 1 done program)
 
 module _ (x : ExerciseView) (j k : JointState) (e : Entry) (formed : IsWellFormed x) (sound : IsSoundJoint x j) (step : JointStep x j e k) where
   abbrev seat : ThreadState
@@ -82,7 +74,7 @@ module _ (x : ExerciseView) (j k : JointState) (e : Entry) (formed : IsWellForme
       go : Does (own_of x.objects e.thread) seat.phase seat.rest e.object e.op → is_stop e.op ≡ false
       go (begins p o b) = ap is_stop b
       go (ends p o cut b) = ap is_stop b
-      go (calls p asked) = call-no_stop e.op (asked-well_formed x formed e.thread stands.done seat.rest.left stands.left e.object e.op asked).call
+      go (calls p asked) = call-no_stop e.op (asked-called x seat.rest.program seat.rest.registers e.object e.op stands.calls asked).call
       go (resumes p b) = ap is_stop b
 
   stops : is_main seat.phase ≡ true → e.op ≡ op.Stop
@@ -113,8 +105,7 @@ module _ (x : ExerciseView) (j k : JointState) (e : Entry) (formed : IsWellForme
           let same : rest' ≡ seat.rest = ap (λ o. rest_by o e.reply seat.rest) (stops main) in
           record {
             main = ap is_main is ∙ sym main ∙ stands.main;
-            done = stands.done;
-            left = ap (λ r. r.left) same ∙ stands.left;
+            calls = subst (λ (q : Rest). AllCallsPass (is_call_on x.objects) q.program) (sym same) stands.calls;
             answered = subst (λ (p : Phase). IsAnswered p rest'.last) (sym is) tt;
             among = subst (λ (p : Phase). IsAmong p (length x.objects)) (sym is) tt;
           }
@@ -127,8 +118,7 @@ module _ (x : ExerciseView) (j k : JointState) (e : Entry) (formed : IsWellForme
               let is : after ≡ phase.Ended cut = by_phase plain ∙ p in
               record {
                 main = ap is_main is ∙ sym plain ∙ stands.main;
-                done = stands.done;
-                left = ap (λ q. q.left) r ∙ stands.left;
+                calls = subst (λ (q : Rest). AllCallsPass (is_call_on x.objects) q.program) (sym r) stands.calls;
                 answered = subst (λ (q : Phase). IsAnswered q rest'.last) (sym is) tt;
                 among = subst (λ (q : Phase). IsAmong q (length x.objects)) (sym is) tt;
               }
@@ -136,19 +126,17 @@ module _ (x : ExerciseView) (j k : JointState) (e : Entry) (formed : IsWellForme
               let is : after ≡ phase.Waits e.object = by_phase plain ∙ p in
               record {
                 main = ap is_main is ∙ sym plain ∙ stands.main;
-                done = stands.done;
-                left = ap (λ q. q.left) r ∙ stands.left;
+                calls = subst (λ (q : Rest). AllCallsPass (is_call_on x.objects) q.program) (sym r) stands.calls;
                 answered = subst (λ (q : Phase). IsAnswered q rest'.last) (sym is) tt;
                 among = subst (λ (q : Phase). IsAmong q (length x.objects)) (sym is) among;
               }
           go (freed w n p r) =
               let is : after ≡ phase.Free = by_phase plain ∙ p in
-              let more = answered-left (program_of x e.thread) seat.rest e.reply stands.done stands.left in
+              let more = AllCalls-answered _ seat.rest e.reply stands.calls in
               let last : IsSome rest'.last = subst (λ (q : Rest). IsSome q.last) (sym r) refl in
               record {
                 main = ap is_main is ∙ sym plain ∙ stands.main;
-                done = more.0;
-                left = ap (λ q. q.left) r ∙ more.1;
+                calls = subst (λ (q : Rest). AllCallsPass (is_call_on x.objects) q.program) (sym r) more;
                 answered = subst (λ (q : Phase). IsAnswered q rest'.last) (sym is) last;
                 among = subst (λ (q : Phase). IsAmong q (length x.objects)) (sym is) tt;
               }
@@ -161,7 +149,7 @@ module _ (x : ExerciseView) (j k : JointState) (e : Entry) (formed : IsWellForme
       go (begins p o b) = o
       go (ends p o cut b) = o
       go (calls p asked) =
-          let none = call-no_life e.op (asked-well_formed x formed e.thread stands.done seat.rest.left stands.left e.object e.op asked).call in
+          let none = call-no_life e.op (asked-called x seat.rest.program seat.rest.registers e.object e.op stands.calls asked).call in
           ⊎_elim (λ (y : is_begin e.op ≡ true). absurd (false≢true (sym none.0 ∙ y))) (λ (y : is_end e.op ≡ true). absurd (false≢true (sym none.1 ∙ y))) turns
       go (resumes p b) =
           ⊎_elim (λ (y : is_begin e.op ≡ true). absurd (false≢true (sym (ap is_begin b) ∙ y))) (λ (y : is_end e.op ≡ true). absurd (false≢true (sym (ap is_end b) ∙ y))) turns
@@ -179,7 +167,7 @@ module _ (x : ExerciseView) (j k : JointState) (e : Entry) (formed : IsWellForme
       go (ends p o cut b) (waiting w n q r) = absurd (false≢true (sym n ∙ ap is_end b))
       go (ends p o cut b) (freed w n q r) = absurd (false≢true (sym n ∙ ap is_end b))
       go (calls p asked) b =
-          let none = call-no_life e.op (asked-well_formed x formed e.thread stands.done seat.rest.left stands.left e.object e.op asked).call in
+          let none = call-no_life e.op (asked-called x seat.rest.program seat.rest.registers e.object e.op stands.calls asked).call in
           called none.0 none.1 p b
         where
           called : is_begin e.op ≡ false → is_end e.op ≡ false → seat.phase ≡ phase.Free → Becomes e.op e.reply e.object seat.rest

@@ -7,7 +7,7 @@ use Rattle.tm_base.specs.declared.ends.End.TheVariants as end
 use Rattle.tm_base.specs.declared.events.Entry.{Entry}
 use Rattle.tm_base.specs.declared.operations.Op.TheVariants as op
 use Rattle.tm_text.specs.Exercises.{ExerciseView}
-use Rattle.tm_text.specs.Programs.{asked_of, is_stopped}
+use Rattle.tm_programs.specs.Programs.{asked_of, is_stopped}
 use Rattle.tm_replay.specs.declared.phases.Phase.{Phase}
 use Rattle.tm_replay.specs.declared.phases.Phase.TheVariants as phase
 use Rattle.tm_replay.specs.JointStates.{JointState, ThreadState}

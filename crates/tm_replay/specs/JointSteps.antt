@@ -13,7 +13,7 @@ use Rattle.tm_base.specs.Machines.{changed}
 use Rattle.tm_base.specs.Histories.{Lawful}
 use Rattle.tm_base.specs.Runs.{Leads}
 use Rattle.tm_text.specs.Exercises.{ExerciseView, own_of}
-use Rattle.tm_text.specs.Programs.{Rest, answered, asked_of}
+use Rattle.tm_programs.specs.Programs.{Rest, answered, asked_of}
 use Rattle.tm_replay.specs.declared.phases.Phase.{Phase}
 use Rattle.tm_replay.specs.declared.phases.Phase.TheVariants as phase
 use Rattle.tm_replay.specs.JointStates.{JointState, ThreadState, ObjectState, start}

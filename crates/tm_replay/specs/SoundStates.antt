@@ -1,11 +1,12 @@
 -- What holds in every joint state of a legal run.
-use Rattle.std.specs.Prelude.{◌≡◌, ℕ, suc, ◌<◌, ◌≤◌, Bool, true, false, ◌==◌, drop, length, slice_get, Option, Some, None, IsSome}
+use Rattle.std.specs.Prelude.{◌≡◌, ℕ, suc, ◌<◌, ◌≤◌, Bool, true, false, ◌==◌, length, slice_get, Option, Some, None, IsSome}
 use Rattle.tm_base.specs.declared.replies.Reply.{Reply}
 use Rattle.tm_base.specs.States.{is_pending}
 use Rattle.tm_laws.specs.Tidy.{IsSound}
 use Rattle.tm_laws.specs.ThreadObjects.{has_begun, has_ended}
 use Rattle.tm_text.specs.declared.exercises.Declaration.{Declaration}
-use Rattle.tm_text.specs.Exercises.{ExerciseView, program_of, own_of}
+use Rattle.tm_programs.specs.Calls.{AllCallsPass}
+use Rattle.tm_text.specs.Exercises.{ExerciseView, is_call_on, own_of}
 use Rattle.tm_replay.specs.declared.phases.Phase.{Phase}
 use Rattle.tm_replay.specs.declared.phases.Phase.TheVariants as phase
 use Rattle.tm_replay.specs.JointStates.{JointState, ThreadState, ObjectState}
@@ -47,11 +48,10 @@ pub record IsObjectStateOf (x : ExerciseView) (o : ℕ) (b : ObjectState) : Type
   pub threads : b.view.threads ≡ length x.programs
   pub sound : IsSound b.view
 
--- The thread goes on with the end of its program that is left.
+-- The calls of what is left of the thread's program are ones that their objects have.
 pub record IsThreadStateOf (x : ExerciseView) (t : ℕ) (s : ThreadState) : Type 0 where
   pub main : is_main s.phase ≡ (t == 0)
-  pub done : ℕ
-  pub left : s.rest.left ≡ drop done (program_of x t)
+  pub calls : AllCallsPass (is_call_on x.objects) s.rest.program
   pub answered : IsAnswered s.phase s.rest.last
   pub among : IsAmong s.phase (length x.objects)
 

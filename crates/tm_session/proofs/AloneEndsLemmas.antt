@@ -13,10 +13,11 @@ use Rattle.tm_base.specs.declared.events.Entry.{Entry}
 use Rattle.tm_base.specs.Histories.{Lawful}
 use Rattle.tm_laws.proofs.RunsLemmas.{Leads-snoc, Leads-split, Leads-keeps}
 use Rattle.tm_text.specs.Exercises.{ExerciseView, IsWellFormed, own_of}
-use Rattle.tm_text.specs.Programs.{Rest, asked_of, is_stopped, next_ask}
+use Rattle.tm_programs.specs.Programs.{Rest, asked_of, is_stopped, next_ask}
 use Rattle.tm_replay.specs.declared.phases.Phase.{Phase}
 use Rattle.tm_replay.specs.declared.phases.Phase.TheVariants as phase
-use Rattle.tm_replay.specs.JointStates.{JointState, ThreadState, start, first_thread_state}
+use Rattle.tm_replay.specs.JointStates.{JointState, ThreadState, start, first_thread_state, unbegun}
+use Rattle.tm_programs.specs.Programs.{Over}
 use Rattle.tm_replay.specs.JointSteps.{MayIn, MayAsk, JointStep, IsJointRun, is_call, phase_after, phase_by, rest_by, stepped}
 use Rattle.tm_replay.specs.Bars.{bars_of, is_stuck, waited_objects}
 use Rattle.tm_replay.specs.Ends.{IsEndedRun, WasStuck, is_cut_phase, is_cut_by_limit, is_more}
@@ -32,16 +33,16 @@ use Rattle.tm_session.proofs.Stopping.{due-waited}
 use Rattle.tm_session.proofs.Turning.{IsSoundTurn, turned, alone-legal}
 
 -- an end that is cut follows the reply `stopped`, or a program that asks one more call
-cut-asks : (own : ℕ) (rest : Rest) (object : ℕ) (o : Op) (k : Ask) → is_stopped rest.last ≡ false → next_ask rest.left ≡ k → MayAsk own (Some k) object o → o ≡ op.End true
+cut-asks : (own : ℕ) (rest : Rest) (object : ℕ) (o : Op) (k : Ask) → is_stopped rest.last ≡ false → next_ask rest.program rest.registers ≡ k → MayAsk own (Some k) object o → o ≡ op.End true
     → is_more (asked_of rest) ≡ true
 cut-asks own rest object o ask.Over going asked may cut = let never : op.End true ≡ op.End false = sym cut ∙ may.1 in cc
 cut-asks own rest object o (ask.Call object' o') going asked may cut =
-    ap (λ (v : Bool). is_more (if v then None else Some (next_ask rest.left))) going ∙ ap (λ (a : Ask). is_more (Some a)) asked
+    ap (λ (v : Bool). is_more (if v then None else Some (next_ask rest.program rest.registers))) going ∙ ap (λ (a : Ask). is_more (Some a)) asked
 
-cut-free : (own : ℕ) (rest : Rest) (object : ℕ) (o : Op) (v : Bool) → is_stopped rest.last ≡ v → MayAsk own (if v then None else Some (next_ask rest.left)) object o → o ≡ op.End true
+cut-free : (own : ℕ) (rest : Rest) (object : ℕ) (o : Op) (v : Bool) → is_stopped rest.last ≡ v → MayAsk own (if v then None else Some (next_ask rest.program rest.registers)) object o → o ≡ op.End true
     → (is_stopped rest.last ≡ true) ⊎ (is_more (asked_of rest) ≡ true)
 cut-free own rest object o true last may cut = inl last
-cut-free own rest object o false last may cut = inr (cut-asks own rest object o (next_ask rest.left) last refl may cut)
+cut-free own rest object o false last may cut = inr (cut-asks own rest object o (next_ask rest.program rest.registers) last refl may cut)
 
 may-cut : (own : ℕ) (p : Phase) (rest : Rest) (object : ℕ) (o : Op) → MayIn own p rest object o → o ≡ op.End true → (is_stopped rest.last ≡ true) ⊎ (is_more (asked_of rest) ≡ true)
 may-cut own phase.Main rest object o may cut = let never : op.End true ≡ op.Stop = sym cut ∙ may in absurd cc
@@ -123,10 +124,10 @@ all-step x limit j k e step keeps all t r h =
 
 all-start : (x : ExerciseView) (limit : ℕ) → AllEndWithin limit (start x)
 all-start x limit zero s h =
-    let main : first_thread_state phase.Main [] ≡ s = cc in
+    let main : first_thread_state phase.Main Over ≡ s = cc in
     subst (EndsWithin limit) main (omega arith, λ cut. absurd (false≢true cut))
 all-start x limit (suc t) s h =
-    subst (EndsWithin limit) (mapped-at (first_thread_state phase.NotBegun) x.programs t s h).2 (omega arith, λ cut. absurd (false≢true cut))
+    subst (EndsWithin limit) (mapped-at unbegun x.programs t s h).2 (omega arith, λ cut. absurd (false≢true cut))
 
 -- a stop is no call
 stop-keeps : (limit : ℕ) (s : ThreadState) (o : Op) → o ≡ op.Stop → KeepsLimit limit s o

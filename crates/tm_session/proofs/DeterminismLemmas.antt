@@ -8,7 +8,7 @@ use Rattle.tm_base.specs.declared.events.Entry.{Entry}
 use Rattle.tm_base.specs.Histories.{Lawful}
 use Rattle.tm_base.specs.Runs.{Leads}
 use Rattle.tm_text.specs.Exercises.{ExerciseView, IsWellFormed, own_of}
-use Rattle.tm_text.specs.Programs.{is_stopped, next_ask}
+use Rattle.tm_programs.specs.Programs.{is_stopped, next_ask}
 use Rattle.tm_replay.specs.declared.phases.Phase.{Phase}
 use Rattle.tm_replay.specs.declared.phases.Phase.TheVariants as phase
 use Rattle.tm_replay.specs.JointStates.{JointState, ThreadState}
@@ -35,25 +35,25 @@ keeps-cut limit s o going cut keeps =
     subst (λ (b : Bool). MatchBool b (Unit {0}) (limit ≤ s.made)) going (kept refl)
 
 -- what a thread does next is fixed by its phase, its program and its limit
-module _ (own limit : ℕ) (s : ThreadState) (asks : AsksCalls s.rest.left) (a b : ℕ) (o u : Op) (first : KeepsLimit limit s o) (second : KeepsLimit limit s u) where
-  clash : (o' v w : Op) (object : ℕ) → next_ask s.rest.left ≡ ask.Call object o' → is_stopped s.rest.last ≡ false
+module _ (own limit : ℕ) (s : ThreadState) (asks : AsksCalls s.rest) (a b : ℕ) (o u : Op) (first : KeepsLimit limit s o) (second : KeepsLimit limit s u) where
+  clash : (o' v w : Op) (object : ℕ) → next_ask s.rest.program s.rest.registers ≡ ask.Call object o' → is_stopped s.rest.last ≡ false
       → v ≡ o' → KeepsLimit limit s v → w ≡ op.End true → KeepsLimit limit s w → ⊥
   clash o' v w object asked going call keeps cut kept =
       let below : s.made < limit = keeps-call limit s v (ap is_call call ∙ asks object o' asked) keeps in
       let full : limit ≤ s.made = keeps-cut limit s w going cut kept in
       omega (arith, below, full)
 
-  by_ask : (k : Ask) → next_ask s.rest.left ≡ k → is_stopped s.rest.last ≡ false → MayAsk own (Some k) a o → MayAsk own (Some k) b u → (a ≡ b) × (o ≡ u)
+  by_ask : (k : Ask) → next_ask s.rest.program s.rest.registers ≡ k → is_stopped s.rest.last ≡ false → MayAsk own (Some k) a o → MayAsk own (Some k) b u → (a ≡ b) × (o ≡ u)
   by_ask ask.Over asked going l r = (l.0 ∙ sym r.0, l.1 ∙ sym r.1)
   by_ask (ask.Call object o') asked going (inl l) (inl r) = (l.0 ∙ sym r.0, l.1 ∙ sym r.1)
   by_ask (ask.Call object o') asked going (inr l) (inr r) = (l.0 ∙ sym r.0, l.1 ∙ sym r.1)
   by_ask (ask.Call object o') asked going (inl l) (inr r) = absurd (clash o' o u object asked going l.1 first r.1 second)
   by_ask (ask.Call object o') asked going (inr l) (inl r) = absurd (clash o' u o object asked going r.1 second l.1 first)
 
-  by_last : (v : Bool) → is_stopped s.rest.last ≡ v → MayAsk own (if v then None else Some (next_ask s.rest.left)) a o
-      → MayAsk own (if v then None else Some (next_ask s.rest.left)) b u → (a ≡ b) × (o ≡ u)
+  by_last : (v : Bool) → is_stopped s.rest.last ≡ v → MayAsk own (if v then None else Some (next_ask s.rest.program s.rest.registers)) a o
+      → MayAsk own (if v then None else Some (next_ask s.rest.program s.rest.registers)) b u → (a ≡ b) × (o ≡ u)
   by_last true e l r = (l.0 ∙ sym r.0, l.1 ∙ sym r.1)
-  by_last false e l r = by_ask (next_ask s.rest.left) refl e l r
+  by_last false e l r = by_ask (next_ask s.rest.program s.rest.registers) refl e l r
 
   MayIn-one : (p : Phase) → is_main p ≡ false → MayIn own p s.rest a o → MayIn own p s.rest b u → (a ≡ b) × (o ≡ u)
   MayIn-one phase.Main main l r = absurd cc
@@ -85,7 +85,7 @@ module _ (x : ExerciseView) (rules : Rules) (p q r : RunState) (e f : Entry) whe
       let seat : s ≡ b.step.happens.thread_state = same-thread_state p.joint q.joint r.joint e f a.step.happens b.step.happens thread in
       let by = chosen x p.joint formed sound.sound rules.schedule p.last q.draw e.thread a.chosen in
       let plain : is_main s.phase ≡ false = (sound.sound.threads e.thread s a.step.happens.thread).main ∙ ne_eqb e.thread 0 (λ h. omega (arith, h, by.program)) in
-      let asks : AsksCalls s.rest.left = chosen-asks x p.joint formed sound.sound e.thread s by a.step.happens.thread in
+      let asks : AsksCalls s.rest = chosen-asks x p.joint formed sound.sound e.thread s by a.step.happens.thread in
       let may : MayIn (own_of x.objects e.thread) s.phase s.rest f.object f.op =
       subst (λ (t : ℕ). MayIn (own_of x.objects t) s.phase s.rest f.object f.op) (sym thread)
       (subst (λ (u : ThreadState). MayIn (own_of x.objects f.thread) u.phase u.rest f.object f.op) (sym seat) b.step.may) in

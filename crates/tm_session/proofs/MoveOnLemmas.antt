@@ -17,7 +17,7 @@ use Rattle.tm_replay.specs.RunnableThreads.{IsAnswerable}
 use Rattle.tm_replay.proofs.Lists.{found_at}
 use Rattle.tm_replay.proofs.RunnableThreadsLemmas.{runnable-answered}
 use Rattle.tm_replay.proofs.Soundness.{is_main-phase}
-use Rattle.tm_replay.proofs.Moves.{Does, may-does, asked-well_formed}
+use Rattle.tm_replay.proofs.Moves.{Does, may-does, asked-called}
 use Rattle.tm_session.specs.declared.next_calls.NextCall.{NextCall}
 use Rattle.tm_session.specs.Seats.{GoesOn, AsksCalls, waits_of}
 use Rattle.tm_session.specs.Scenes.{IsEarly, CanPerform, Performs}
@@ -79,10 +79,10 @@ module _ (x : ExerciseView) (j : JointState) (formed : IsWellFormed x) (sound : 
         go (phase.Ended cut) m r = absurd (false≢true r)
 
     -- what it asks is a call
-    pub chosen-asks : AsksCalls s.rest.left
+    pub chosen-asks : AsksCalls s.rest
     chosen-asks object o asked =
         let stands = sound.threads t s seat in
-        (asked-well_formed x formed t stands.done s.rest.left stands.left object o asked).call
+        (asked-called x s.rest.program s.rest.registers object o stands.calls asked).call
 
     module _ (w : NextCall) (may : MayIn (own_of x.objects t) s.phase s.rest w.object w.op) where
       does : Does (own_of x.objects t) s.phase s.rest w.object w.op

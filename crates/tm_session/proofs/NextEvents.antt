@@ -8,7 +8,7 @@ use Rattle.tm_base.specs.declared.asks.Ask.TheVariants as ask
 use Rattle.tm_base.specs.declared.events.Entry.{Entry}
 use Rattle.tm_laws.proofs.AnsweredLemmas.{Lawful-answered}
 use Rattle.tm_text.specs.Exercises.{ExerciseView, IsWellFormed, own_of}
-use Rattle.tm_text.specs.Programs.{is_stopped, next_ask}
+use Rattle.tm_programs.specs.Programs.{is_stopped, next_ask}
 use Rattle.tm_replay.specs.declared.phases.Phase.{Phase}
 use Rattle.tm_replay.specs.declared.phases.Phase.TheVariants as phase
 use Rattle.tm_replay.specs.JointStates.{JointState, ThreadState, ObjectState}
@@ -37,17 +37,17 @@ pub record HasNextCall (own limit : ℕ) (p : Phase) (s : ThreadState) : Type 0 
   pub may : MayIn own p s.rest call.object call.op
   pub keeps : KeepsLimit limit s call.op
 
-module _ (own limit : ℕ) (s : ThreadState) (asks : AsksCalls s.rest.left) where
-  by_ask : (k : Ask) → next_ask s.rest.left ≡ k → is_stopped s.rest.last ≡ false → (object : ℕ) × (o : Op) × MayAsk own (Some k) object o × KeepsLimit limit s o
+module _ (own limit : ℕ) (s : ThreadState) (asks : AsksCalls s.rest) where
+  by_ask : (k : Ask) → next_ask s.rest.program s.rest.registers ≡ k → is_stopped s.rest.last ≡ false → (object : ℕ) × (o : Op) × MayAsk own (Some k) object o × KeepsLimit limit s o
   by_ask ask.Over asked going = (own, op.End false, (refl, refl), λ e. absurd (false≢true e))
   by_ask (ask.Call object o) asked going = ⊎_elim
       (λ (below : s.made < limit). (object, o, inl (refl, refl), keeps-below limit s o (asks object o asked) below))
       (λ (full : limit ≤ s.made). (own, op.End true, inr (refl, refl), λ _. subst (λ (b : Bool). MatchBool b (Unit {0}) (limit ≤ s.made)) (sym going) full))
       (cases_lt s.made limit)
 
-  by_last : (v : Bool) → is_stopped s.rest.last ≡ v → (object : ℕ) × (o : Op) × MayAsk own (if v then None else Some (next_ask s.rest.left)) object o × KeepsLimit limit s o
+  by_last : (v : Bool) → is_stopped s.rest.last ≡ v → (object : ℕ) × (o : Op) × MayAsk own (if v then None else Some (next_ask s.rest.program s.rest.registers)) object o × KeepsLimit limit s o
   by_last true e = (own, op.End true, (refl, refl), λ _. subst (λ (b : Bool). MatchBool b (Unit {0}) (limit ≤ s.made)) (sym e) tt)
-  by_last false e = by_ask (next_ask s.rest.left) refl e
+  by_last false e = by_ask (next_ask s.rest.program s.rest.registers) refl e
 
   has_next_call : (p : Phase) → GoesOn p → HasNextCall own limit p s
   has_next_call phase.Main goes = elim goes [ ]

@@ -12,7 +12,7 @@ use Rattle.tm_base.specs.Tickets.{IsReady, waits_after}
 use Rattle.tm_laws.specs.Counts.{is_wait}
 use Rattle.tm_laws.specs.ThreadObjects.{is_end}
 use Rattle.tm_laws.proofs.Begun.{End-plain}
-use Rattle.tm_text.specs.Programs.{Rest}
+use Rattle.tm_programs.specs.Programs.{Rest}
 use Rattle.tm_replay.specs.declared.phases.Phase.{Phase}
 use Rattle.tm_replay.specs.declared.phases.Phase.TheVariants as phase
 use Rattle.tm_replay.specs.JointSteps.{is_call, phase_after, phase_by}
@@ -26,7 +26,7 @@ call-ready object op.Resume call = absurd cc
 call-ready object o call = refl
 
 -- a thread is ready for what it does by its phase
-pub does-ready : (own : ℕ) (p : Phase) (rest : Rest) (object : ℕ) (o : Op) → AsksCalls rest.left → Does own p rest object o → IsReady (waits_of p) object o
+pub does-ready : (own : ℕ) (p : Phase) (rest : Rest) (object : ℕ) (o : Op) → AsksCalls rest → Does own p rest object o → IsReady (waits_of p) object o
 does-ready own p rest object o asks does = go does
   where
     go : Does own p rest object o → IsReady (waits_of p) object o

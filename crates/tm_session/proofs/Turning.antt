@@ -1,12 +1,14 @@
 -- One turn after another.
-use Rattle.std.proofs.Common.{◌≡◌, ℕ, ◌+◌, ◌≤◌, List, [], ◌∷◌, length, slice_set, ap, sym, ◌∙◌, subst, arith}
+use Rattle.std.proofs.Common.{◌≡◌, ℕ, ◌+◌, ◌<◌, ◌≤◌, true, false, List, [], ◌∷◌, length, slice_set, ap, sym, ◌∙◌, subst, arith}
 use Rattle.std.proofs.lemmas.Option.{slice_get_within}
+use Rattle.tm_base.specs.declared.operations.Op.{Op}
+use Rattle.tm_base.specs.declared.operations.Op.TheVariants as op
 use Rattle.tm_base.specs.declared.events.Entry.{Entry}
 use Rattle.tm_base.specs.Runs.{Leads}
 use Rattle.tm_laws.proofs.RunsLemmas.{Leads-keeps}
 use Rattle.tm_text.specs.Exercises.{ExerciseView, IsWellFormed}
-use Rattle.tm_replay.specs.JointStates.{JointState, ObjectState}
-use Rattle.tm_replay.specs.JointSteps.{JointStep, IsJointRun, entered}
+use Rattle.tm_replay.specs.JointStates.{JointState, ObjectState, ThreadState}
+use Rattle.tm_replay.specs.JointSteps.{JointStep, IsJointRun, entered, is_call}
 use Rattle.tm_replay.specs.SoundStates.{IsSoundJoint}
 use Rattle.tm_replay.specs.Work.{IsCounted, work}
 use Rattle.tm_replay.proofs.JointStartLemmas.{IsSoundJoint-start}
@@ -17,7 +19,7 @@ use Rattle.tm_session.specs.declared.turns.Run.{Run}
 use Rattle.tm_session.specs.declared.rules.Rules.{Rules}
 use Rattle.tm_session.specs.Choices.{draw_after}
 use Rattle.tm_session.specs.Scenes.{joint_of}
-use Rattle.tm_session.specs.Turns.{RunState, first_run_state, BeginsAlone, Goes, GoesBy, Halts, Moves, due_stops}
+use Rattle.tm_session.specs.Turns.{RunState, first_run_state, BeginsAlone, Goes, GoesBy, Halts, KeepsLimit, Moves, due_stops}
 use Rattle.tm_session.specs.Running.{run_state_of, MovesOn, Stops, AreWaited}
 use Rattle.tm_session.proofs.Stopping.{due-waited, waited-after}
 
@@ -67,12 +69,27 @@ turned x rules p q e formed sound goes = go (due_stops p) (due-waited p.joint p.
       },
     )
 
+-- a move's calls are below the limit
+below-limit : (limit : ℕ) (s : ThreadState) (o : Op) → KeepsLimit limit s o → is_call o ≡ true → s.made < limit
+below-limit limit s (op.End cut) keeps call = absurd (let e : false ≡ true = call in cc)
+below-limit limit s o keeps call = keeps call
+
+-- a turn lowers the work that is left
+pub turn-falls : (x : ExerciseView) (rules : Rules) (p q : RunState) (e : Entry) → IsWellFormed x → IsSoundTurn x p → Goes x rules p e q → work rules.limit q.joint + 1 ≤ work rules.limit p.joint
+turn-falls x rules p q e formed sound goes = go (due_stops p) goes
+  where
+    go : (due : List ℕ) → GoesBy x rules p due e q → work rules.limit q.joint + 1 ≤ work rules.limit p.joint
+    go [] m = work-step x rules.limit p.joint q.joint e formed sound.sound m.step (below-limit rules.limit m.step.happens.thread_state e.op m.limit)
+    go (object ∷ stops) h =
+        work-step x rules.limit p.joint q.joint e formed sound.sound h.step
+        (λ call. absurd (let f : false ≡ true = ap is_call (sym h.stop) ∙ call in cc))
+
 -- a turn keeps places and stamps below the number of events, and lowers the work that is left
 pub turn-counts : (x : ExerciseView) (rules : Rules) (n : ℕ) (p q : RunState) (e : Entry) → IsWellFormed x → IsSoundTurn x p → IsCounted n p.joint → Goes x rules p e q
-    → IsCounted (n + 1) q.joint × (work q.joint + 1 ≤ work p.joint)
+    → IsCounted (n + 1) q.joint × (work rules.limit q.joint + 1 ≤ work rules.limit p.joint)
 turn-counts x rules n p q e formed sound counted goes =
     let step = (turned x rules p q e formed sound goes).0 in
-    (IsCounted-step x n p.joint q.joint e counted step, work-step x p.joint q.joint e formed sound.sound step)
+    (IsCounted-step x n p.joint q.joint e counted step, turn-falls x rules p q e formed sound goes)
 
 -- an alone run's events are a joint run
 pub turns-legal : (x : ExerciseView) (rules : Rules) (es : List Entry) (p q : RunState) → IsWellFormed x → IsSoundTurn x p → Leads (Goes x rules) p es q → Leads (JointStep x) p.joint es q.joint

@@ -6,12 +6,11 @@ use Rattle.tm_laws.proofs.RunsLemmas.{Leads-append}
 use Rattle.tm_text.specs.Exercises.{ExerciseView, IsWellFormed}
 use Rattle.tm_replay.specs.Bars.{bars_of, is_over}
 use Rattle.tm_replay.specs.Work.{work}
-use Rattle.tm_replay.proofs.Falling.{work-step}
 use Rattle.tm_session.specs.declared.rules.Rules.{Rules}
 use Rattle.tm_session.specs.Turns.{RunState, first_run_state, BeginsAlone, Goes, IsAloneRun}
 use Rattle.tm_session.specs.Determinism.{HasAloneRun}
 use Rattle.tm_session.proofs.NextEvents.{next-event}
-use Rattle.tm_session.proofs.Turning.{IsSoundTurn, turned, begun-sound}
+use Rattle.tm_session.proofs.Turning.{IsSoundTurn, turned, turn-falls, begun-sound}
 
 module _ (x : ExerciseView) (rules : Rules) (formed : IsWellFormed x) where
   -- the rest of a run
@@ -26,7 +25,7 @@ module _ (x : ExerciseView) (rules : Rules) (formed : IsWellFormed x) where
   ends-after p q e goes rest = record { events = e ∷ rest.events; turn = rest.turn; run = (q, goes, rest.run); over = rest.over }
 
   -- a run has a rest, where each that its next event leaves has one
-  ends-next : (p : RunState) → IsSoundTurn x p → ((q : RunState) → IsSoundTurn x q → work q.joint + 1 ≤ work p.joint → Ends q) → Ends p
+  ends-next : (p : RunState) → IsSoundTurn x p → ((q : RunState) → IsSoundTurn x q → work rules.limit q.joint + 1 ≤ work rules.limit p.joint → Ends q) → Ends p
   ends-next p sound later = by_test (is_over (bars_of p.joint)) refl
     where
       by_test : (b : Bool) → is_over (bars_of p.joint) ≡ b → Ends p
@@ -34,15 +33,15 @@ module _ (x : ExerciseView) (rules : Rules) (formed : IsWellFormed x) where
       by_test false going =
           let n = next-event x rules p formed sound going in
           let t = turned x rules p n.next n.event formed sound n.goes in
-          ends-after p n.next n.event n.goes (later n.next t.1 (work-step x p.joint n.next.joint n.event formed sound.sound t.0))
+          ends-after p n.next n.event n.goes (later n.next t.1 (turn-falls x rules p n.next n.event formed sound n.goes))
 
   -- each event lowers the work that is left
-  ends-within : (n : ℕ) (p : RunState) → IsSoundTurn x p → work p.joint ≤ n → Ends p
+  ends-within : (n : ℕ) (p : RunState) → IsSoundTurn x p → work rules.limit p.joint ≤ n → Ends p
   ends-within zero p sound few = ends-next p sound (λ q s less. absurd (omega (arith, less, few)))
   ends-within (suc n) p sound few = ends-next p sound (λ q s less. ends-within n q s (omega (arith, less, few)))
 
   pub begun-ends : (es : List Entry) (p : RunState) → BeginsAlone x rules es p → Ends p
-  begun-ends es p begun = ends-within (work p.joint) p (begun-sound x rules es p formed begun) (omega arith)
+  begun-ends es p begun = ends-within (work rules.limit p.joint) p (begun-sound x rules es p formed begun) (omega arith)
 
   -- with its rest it is the whole alone run
   pub begun-whole : (es : List Entry) (p : RunState) → BeginsAlone x rules es p → (rest : Ends p) → IsAloneRun x rules (es ++ rest.events) rest.turn

@@ -1,6 +1,7 @@
 pub mod Choices
 pub mod Turns
 pub mod Seats
+pub mod SeatCodes
 pub mod StoredSeats
 pub mod Acting
 pub mod Transcripts

@@ -1,12 +1,11 @@
 -- A thread's place in a run.
-use Rattle.std.specs.Prelude.{◌≡◌, ℕ, List, Bool, true, false, Option, Some, None, MatchBool}
+use Rattle.std.specs.Prelude.{◌≡◌, ℕ, Bool, true, false, Option, Some, None, MatchBool}
 use Rattle.tm_base.specs.declared.operations.Op.{Op}
 use Rattle.tm_base.specs.declared.operations.Op.TheVariants as op
 use Rattle.tm_base.specs.declared.replies.Reply.{Reply}
 use Rattle.tm_base.specs.declared.asks.Ask.TheVariants as ask
 use Rattle.tm_base.specs.Tickets.{TicketView}
-use Rattle.tm_text.specs.declared.exercises.Statement.{Statement}
-use Rattle.tm_text.specs.Programs.{is_stopped, next_ask}
+use Rattle.tm_programs.specs.Programs.{Rest, is_stopped, next_ask}
 use Rattle.tm_replay.specs.declared.phases.Phase.{Phase}
 use Rattle.tm_replay.specs.declared.phases.Phase.TheVariants as phase
 use Rattle.tm_replay.specs.JointStates.{ThreadState}
@@ -40,6 +39,6 @@ abbrev pub IsWithin : Bool → Option Reply → Op → Type 0
 IsWithin calls last (op.End cut) = cut ≡ true → MatchBool (is_stopped last) (Unit {0}) (calls ≡ false)
 IsWithin calls last o = is_call o ≡ true → calls ≡ true
 
--- What the statements ask is a call.
-abbrev pub AsksCalls : List Statement → Type 0
-AsksCalls left = (object : ℕ) (o : Op) → next_ask left ≡ ask.Call object o → is_call o ≡ true
+-- What is asked of which this is left is a call.
+abbrev pub AsksCalls : Rest → Type 0
+AsksCalls rest = (object : ℕ) (o : Op) → next_ask rest.program rest.registers ≡ ask.Call object o → is_call o ≡ true

@@ -21,7 +21,7 @@ pub record IsUnderWay (x : ExerciseView) (rules : Rules) (s : Session) : Type 0 
   pub last : s.run.last ≤ length x.programs
   pub waited : AreWaited (joint_of s.run.scene) s.run.stops.items
   pub counted : IsCounted (length s.shown.items) (joint_of s.run.scene)
-  pub bounded : length s.shown.items + work (joint_of s.run.scene) ≤ 1000000
+  pub bounded : length s.shown.items + work rules.limit (joint_of s.run.scene) ≤ 2000000
   pub bars : s.bars.items ≡ bars_of (joint_of s.run.scene)
   pub begins : BeginsAlone x rules s.shown.items (run_state_of s.run)
   pub kept : HasKept s.shown.items s.run.scene

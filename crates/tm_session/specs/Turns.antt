@@ -5,7 +5,7 @@ use Rattle.tm_base.specs.declared.operations.Op.TheVariants as op
 use Rattle.tm_base.specs.declared.events.Entry.{Entry}
 use Rattle.tm_base.specs.Runs.{Leads}
 use Rattle.tm_text.specs.Exercises.{ExerciseView}
-use Rattle.tm_text.specs.Programs.{is_stopped}
+use Rattle.tm_programs.specs.Programs.{is_stopped}
 use Rattle.tm_replay.specs.JointStates.{JointState, ThreadState, start}
 use Rattle.tm_replay.specs.JointSteps.{JointStep, is_call}
 use Rattle.tm_replay.specs.Bars.{bars_of, is_over, is_stuck, waited_objects}

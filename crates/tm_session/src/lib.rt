@@ -12,7 +12,7 @@ mod seats;
 mod sessions;
 mod turns;
 
-pub use rules::Rules;
+pub use rules::{MOST_CALLS, Rules};
 pub use runs::{
     Finished, alone, alone_runs_end, begun_runs_are_prefixes, exercises_have_one_alone_run,
     exercises_have_one_alone_text,

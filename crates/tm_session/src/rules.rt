@@ -1,3 +1,6 @@
+/// The most calls that a limit allows a thread.
+pub const MOST_CALLS: u32 = 10_000;
+
 /// What a run keeps to besides its exercise.
 #[derive(Clone, Copy, Debug, PartialEq, Eq)]
 pub struct Rules {

@@ -12,7 +12,7 @@ ghost use Rattle.tm_session.specs.Transcripts.{IsAloneText, BeginsAloneText};
 ghost use Rattle.tm_session.specs.Sending.{IsSent};
 ghost use Rattle.tm_session.specs.Turns.{rules_of};
 
-use crate::rules::Rules;
+use crate::rules::{MOST_CALLS, Rules};
 use crate::sessions::Session;
 use crate::turns::is_over;
 use std::alloc::Global;
@@ -38,7 +38,7 @@ pub struct Finished {
 
 /// Runs the exercise alone: one event a turn, by the threads in cyclic order under schedule 0, and by a
 /// thread that is drawn under each other one. A thread makes at most `limit` calls, its `begin` and
-/// `end` not counted. Writes a row for each event, and the last line. Only running out of memory refuses it,
+/// `end` not counted; the limit is at most `MOST_CALLS`. Writes a row for each event, and the last line. Only running out of memory refuses it,
 /// and then a prefix of this text was written, and not all of it.
 pub fn alone<K: Sink>(
     alloc: Global,
@@ -47,6 +47,7 @@ pub fn alone<K: Sink>(
     limit: u32,
     sink: &mut K,
 ) -> Result<Finished, NoMemory>
+    requires limit { limit ≤ MOST_CALLS }
     // The events, the end and the named threads are those of the alone run, and its text was written.
     ensures run { IfOk result (λ f. (bytes : List ℕ) × IsAloneText exercise.now (rules_of schedule limit) f.shown f.end f.cut bytes
         × IsSent f.write_fault (K.fault_count sink.old) (K.fault_count sink.new) (K.written sink.old) (K.written sink.new) bytes) }

@@ -1,6 +1,7 @@
 ghost use Rattle.std.specs.Prelude.{◌≡◌, ◌≤◌, ◌<◌, [], ◌∷◌, ◌++◌, List, IfOk, length, map};
 ghost use Rattle.tm_text.specs.Exercises.{IsWellFormed};
-ghost use Rattle.tm_replay.specs.JointStates.{start, first_object_state, first_thread_state};
+ghost use Rattle.tm_replay.specs.JointStates.{start, first_object_state, first_thread_state, unbegun};
+ghost use Rattle.tm_programs.specs.Programs.{Over};
 ghost use Rattle.tm_replay.specs.SoundStates.{IsSoundJoint};
 ghost use Rattle.tm_replay.specs.Bars.{bar_in, bar_of, bars_of, waited_objects};
 ghost use Rattle.tm_session.specs.Acting.{object_state_of};
@@ -136,7 +137,7 @@ fn make_books(alloc: Global, exercise: &Exercise) -> Result<Vec<Book>, NoMemory>
 /// The seats of `main` and of the exercise's threads before their first events.
 fn make_seats(alloc: Global, exercise: &Exercise) -> Result<Vec<Seat>, NoMemory>
     ensures threads { IfOk result (λ seats. map (λ v. v.thread_state) seats.items
-        ≡ first_thread_state Phase.Main [] ∷ map (first_thread_state Phase.NotBegun) exercise.now.programs) }
+        ≡ first_thread_state Phase.Main Over ∷ map unbegun exercise.now.programs) }
     ensures numbered { IfOk result (λ seats. AreNumbered seats.items) }
 {
     let mut seats = Vec::new(alloc);

@@ -1,9 +1,9 @@
-ghost use Rattle.std.specs.Prelude.{◌≡◌, ◌<◌, ◌≤◌, ◌+◌, ◌^◌, if◌then◌else◌, IfOk, true, false, [], length};
+ghost use Rattle.std.specs.Prelude.{◌≡◌, ◌<◌, ◌≤◌, ◌+◌, ◌^◌, if◌then◌else◌, IfOk, true, false, length};
 ghost use Rattle.tm_book.specs.Books.{CanEnter};
-ghost use Rattle.tm_text.specs.Exercises.{program_of};
-ghost use Rattle.tm_text.specs.Programs.{asked_of};
+ghost use Rattle.tm_text.specs.Exercises.{instructions_of};
+ghost use Rattle.tm_programs.specs.Programs.{Over, asked_of};
 ghost use Rattle.tm_replay.specs.Ends.{is_more};
-ghost use Rattle.tm_replay.specs.JointStates.{first_thread_state};
+ghost use Rattle.tm_replay.specs.JointStates.{first_thread_state, unbegun};
 ghost use Rattle.tm_replay.specs.JointSteps.{MayIn, is_call, is_final, phase_after, phase_by, rest_by};
 ghost use Rattle.tm_session.specs.Turns.{KeepsLimit};
 ghost use Rattle.tm_session.specs.Seats.{AsksCalls, GoesOn, IsWithin, seat_of, ticket_of};
@@ -33,6 +33,10 @@ impl Model for Seat {
 
     ghost Value = { SeatView };
 
+    ghost use Rattle.tm_session.specs.SeatCodes.{seat_code};
+
+    ghost coded = { seat_code };
+
     ghost use Rattle.tm_session.specs.StoredSeats.{seat_view, KeepsSeat};
 
     ghost view = { seat_view };
@@ -43,7 +47,7 @@ impl Model for Seat {
 impl Seat {
     /// The seat of `main`.
     pub fn main(alloc: Global) -> Seat
-        ensures { result ≡ seat_of 0 (first_thread_state Phase.Main []) }
+        ensures { result ≡ seat_of 0 (first_thread_state Phase.Main Over) }
     {
         Seat {
             ticket: Ticket::make(0),
@@ -57,7 +61,7 @@ impl Seat {
     pub fn make(alloc: Global, exercise: &Exercise, thread: u32) -> Result<Seat, NoMemory>
         requires program { 1 ≤ thread }
         requires known { thread ≤ length exercise.now.programs }
-        ensures { IfOk result (λ seat. seat ≡ seat_of thread (first_thread_state Phase.NotBegun (program_of exercise.now thread))) }
+        ensures { IfOk result (λ seat. seat ≡ seat_of thread (unbegun (instructions_of exercise.now thread))) }
     {
         Ok(Seat {
             ticket: Ticket::make(thread),
@@ -91,7 +95,7 @@ impl Seat {
     /// What the thread does next, whose own object this is.
     pub fn next_call(&self, own: u32, limit: u32) -> NextCall
         requires goes_on { GoesOn self.now.thread_state.phase }
-        requires asks { AsksCalls self.now.thread_state.rest.left }
+        requires asks { AsksCalls self.now.thread_state.rest }
         ensures may { MayIn own self.now.thread_state.phase self.now.thread_state.rest result.object result.op }
         ensures limit { KeepsLimit limit self.now.thread_state result.op }
     {
@@ -127,7 +131,7 @@ impl Seat {
 
 /// What a free thread does next, which may make a call or not by its limit.
 fn free_call(script: &Script, own: u32, calls: bool) -> NextCall
-    requires { AsksCalls script.now.left }
+    requires { AsksCalls script.now }
     ensures may { MayIn own Phase.Free script.now result.object result.op }
     ensures limit { IsWithin calls script.now.last result.op }
 {

@@ -10,7 +10,7 @@ ghost use Rattle.tm_session.specs.Sessions.{IsUnderWay, HasSent};
 ghost use Rattle.tm_session.specs.Sending.{IsSent};
 
 use crate::endings::Ending;
-use crate::rules::Rules;
+use crate::rules::{MOST_CALLS, Rules};
 use crate::runs::Finished;
 use crate::turns::Run;
 use std::alloc::Global;
@@ -31,6 +31,7 @@ pub struct Session {
 impl Session {
     /// Nothing has happened yet, and nothing was written.
     pub fn make(alloc: Global, exercise: &Exercise, rules: Rules) -> Result<Session, NoMemory>
+        requires limit { rules.limit ≤ MOST_CALLS }
         ensures under_way { IfOk result (IsUnderWay exercise.now rules) }
         ensures sent { IfOk result (λ session. (count : ℕ) (bytes : Option (List ℕ)) → HasSent exercise.now session count count bytes bytes) }
     {
@@ -57,7 +58,7 @@ impl Session {
         requires under_way { IsUnderWay exercise.now rules self.old }
         requires going { is_over self.old.bars.items ≡ false }
         ensures under_way { OnOk result (IsUnderWay exercise.now rules self.new) }
-        ensures falls { OnOk result (work (joint_of self.new.run.scene) < work (joint_of self.old.run.scene)) }
+        ensures falls { OnOk result (work rules.limit (joint_of self.new.run.scene) < work rules.limit (joint_of self.old.run.scene)) }
         ensures sent { OnOk result ((before : ℕ) (old : Option (List ℕ))
             → HasSent exercise.now self.old before (K.fault_count sink.old) old (K.written sink.old)
             → HasSent exercise.now self.new before (K.fault_count sink.new) old (K.written sink.new)) }

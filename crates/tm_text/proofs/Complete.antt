@@ -5,37 +5,38 @@ use Rattle.std.specs.List.{AllByRecursion, cons_option, list_all, list_any, rang
 use Rattle.std.specs.Str.{bytes_eq}
 use Rattle.std.proofs.lemmas.Bool.{cond_both, cond-true, false≢true, le-leb}
 use Rattle.std.proofs.lemmas.Slice.Eq.{bytes_eq-Decides}
-use Rattle.tm_base.specs.declared.operations.Op.TheVariants as op
+use Rattle.tm_base.specs.declared.opcodes.Opcode.TheVariants as opcode
+use Rattle.tm_programs.specs.declared.instructions.Operand.TheVariants as operand
 use Rattle.tm_base.specs.declared.kinds.Kind.{Kind}
 use Rattle.tm_base.specs.declared.kinds.Kind.TheVariants as kind
 use Rattle.tm_base.specs.declared.limits.TheConstants.{MOST_THREADS}
 use Rattle.tm_base.specs.Names.{IsName}
 use Rattle.tm_text.specs.declared.exercises.Declaration.{Declaration}
-use Rattle.tm_text.specs.declared.exercises.Statement.{Statement}
-use Rattle.tm_text.specs.declared.exercises.Statement.TheVariants as statement
-use Rattle.tm_text.specs.declared.limits.TheConstants.{MOST_BYTES, MOST_OBJECTS, MOST_STATEMENTS}
+use Rattle.tm_programs.specs.declared.instructions.Instruction.{Instruction}
+use Rattle.tm_programs.specs.declared.instructions.Instruction.TheVariants as instruction
+use Rattle.tm_text.specs.declared.limits.TheConstants.{MOST_BYTES, MOST_OBJECTS, MOST_INSTRUCTIONS}
 use Rattle.tm_text.specs.declared.parsed_lines.ParsedLine.{ParsedLine}
 use Rattle.tm_text.specs.declared.parsed_lines.ParsedLine.TheVariants as says
-use Rattle.tm_text.specs.Exercises.{ExerciseView, IsOfKind, IsStatement, IsKindRead, IsWellFormed, program_of, thread_of, thread_of_kind}
-use Rattle.tm_text.specs.Grammar.{IsExercise, block_of, block_of_kind, lines_of, name_at, name_of, statement_words}
-use Rattle.tm_text.specs.Reading.{IsNamed, are_fit, are_short, unless_too_many, declarations_of, exercise_by, exercise_of, is_mutex, is_mutex_kind, is_short, mutex_from, objects_of, programs_of, put_call, put_statement, with_objects, with_programs}
+use Rattle.tm_text.specs.Exercises.{ExerciseView, IsOfKind, IsInstruction, IsKindRead, IsWellFormed, instructions_of, thread_of, thread_of_kind}
+use Rattle.tm_text.specs.Grammar.{IsExercise, block_of, block_of_kind, lines_of, name_at, name_of, instruction_words}
+use Rattle.tm_text.specs.Reading.{IsNamed, are_fit, are_short, unless_too_many, declarations_of, exercise_by, exercise_of, is_mutex, is_mutex_kind, is_short, mutex_from, objects_of, programs_of, put_call, put_instruction, with_objects, with_programs}
 use Rattle.tm_text.proofs.SpelledLemmas.{AreSaid, parsed_line_words, parsed_lines_of-from_said}
 
--- the parsed line of a statement
-abbrev statement_says : List Declaration → Statement → ParsedLine
-statement_says ds (statement.Call object op.Lock) = says.Lock (name_of ds object)
-statement_says ds (statement.Call object op.Unlock) = says.Unlock (name_of ds object)
-statement_says ds s = says.End
+-- the parsed line of an instruction
+abbrev instruction_says : List Declaration → Instruction → ParsedLine
+instruction_says ds (instruction.Call object opcode.Lock operand.Nothing) = says.Lock (name_of ds object)
+instruction_says ds (instruction.Call object opcode.Unlock operand.Nothing) = says.Unlock (name_of ds object)
+instruction_says ds s = says.End
 
--- the parsed lines of a program's statements, and `end`, in front of others
-abbrev with_program : List Declaration → List Statement → List ParsedLine → List ParsedLine
+-- the parsed lines of a program's instructions, and `end`, in front of others
+abbrev with_program : List Declaration → List Instruction → List ParsedLine → List ParsedLine
 with_program ds [] ss = says.End ∷ ss
-with_program ds (s ∷ p) ss = statement_says ds s ∷ with_program ds p ss
+with_program ds (s ∷ p) ss = instruction_says ds s ∷ with_program ds p ss
 
 -- the parsed lines of an object in front of others
 abbrev with_block : ExerciseView → List ℕ → Kind → List ParsedLine → List ParsedLine
 with_block x name kind.Mutex ss = says.Mutex name ∷ ss
-with_block x name (kind.Thread own held) ss = says.Thread name ∷ with_program x.objects (program_of x own) ss
+with_block x name (kind.Thread own held) ss = says.Thread name ∷ with_program x.objects (instructions_of x own) ss
 with_block x name k ss = ss
 
 -- the parsed lines of objects
@@ -43,11 +44,11 @@ abbrev parsed_lines_for : ExerciseView → List Declaration → List ParsedLine
 parsed_lines_for x [] = []
 parsed_lines_for x (d ∷ ds) = with_block x d.name d.kind (parsed_lines_for x ds)
 
--- a statement locks or unlocks a mutex
-by_call : (ds : List Declaration) (P : Statement → Type 0) → ((o : ℕ) → IsOfKind ds o kind.Mutex → P (statement.Call o op.Lock)) → ((o : ℕ) → IsOfKind ds o kind.Mutex → P (statement.Call o op.Unlock)) → (s : Statement) → IsStatement ds s → P s
-by_call ds P lock unlock (statement.Call o op.Lock) h = lock o h
-by_call ds P lock unlock (statement.Call o op.Unlock) h = unlock o h
-by_call ds P lock unlock (statement.Call o _) h = absurd h
+-- an instruction locks or unlocks a mutex
+by_call : (ds : List Declaration) (P : Instruction → Type 0) → ((o : ℕ) → IsOfKind ds o kind.Mutex → P (instruction.Call o opcode.Lock operand.Nothing)) → ((o : ℕ) → IsOfKind ds o kind.Mutex → P (instruction.Call o opcode.Unlock operand.Nothing)) → (s : Instruction) → IsInstruction ds s → P s
+by_call ds P lock unlock (instruction.Call o opcode.Lock operand.Nothing) h = lock o h
+by_call ds P lock unlock (instruction.Call o opcode.Unlock operand.Nothing) h = unlock o h
+by_call ds P lock unlock s h = elim h [ ]
 
 -- a kind that a text can have
 by_kind : (P : Kind → Type 0) → P kind.Mutex → ((own : ℕ) → P (kind.Thread own false)) → (k : Kind) → IsKindRead k → P k
@@ -66,45 +67,45 @@ record IsKnown (ds : List Declaration) : Type 0 where
   numbers : (o : ℕ) → IsOfKind ds o kind.Mutex → mutex_from 0 (name_of ds o) ds ≡ Some o
 
 -- the names of a program's parsed lines
-named_program : (ds : List Declaration) → IsKnown ds → (p : List Statement) (ss : List ParsedLine) → AllByRecursion (IsStatement ds) p → AllByRecursion IsNamed ss → AllByRecursion IsNamed (with_program ds p ss)
+named_program : (ds : List Declaration) → IsKnown ds → (p : List Instruction) (ss : List ParsedLine) → AllByRecursion (IsInstruction ds) p → AllByRecursion IsNamed ss → AllByRecursion IsNamed (with_program ds p ss)
 named_program ds known [] ss calls h = (tt, h)
 named_program ds known (s ∷ p) ss calls h =
-    (by_call ds (λ t. IsNamed (statement_says ds t)) known.names known.names s calls.0, named_program ds known p ss calls.1 h)
+    (by_call ds (λ t. IsNamed (instruction_says ds t)) known.names known.names s calls.0, named_program ds known p ss calls.1 h)
 
 -- the words of a program's parsed lines
-program_words : (ds : List Declaration) (p : List Statement) (ss : List ParsedLine) → AllByRecursion (IsStatement ds) p → map parsed_line_words (with_program ds p ss) ≡ map (statement_words ds) p ++ ((codes "end" ∷ []) ∷ map parsed_line_words ss)
+program_words : (ds : List Declaration) (p : List Instruction) (ss : List ParsedLine) → AllByRecursion (IsInstruction ds) p → map parsed_line_words (with_program ds p ss) ≡ map (instruction_words ds) p ++ ((codes "end" ∷ []) ∷ map parsed_line_words ss)
 program_words ds [] ss calls = refl
 program_words ds (s ∷ p) ss calls =
-    let same : parsed_line_words (statement_says ds s) ≡ statement_words ds s = by_call ds (λ t. parsed_line_words (statement_says ds t) ≡ statement_words ds t) (λ o h. refl) (λ o h. refl) s calls.0 in
-    ap (λ w. w ∷ map parsed_line_words (with_program ds p ss)) same ∙ ap (λ l. statement_words ds s ∷ l) (program_words ds p ss calls.1)
+    let same : parsed_line_words (instruction_says ds s) ≡ instruction_words ds s = by_call ds (λ t. parsed_line_words (instruction_says ds t) ≡ instruction_words ds t) (λ o h. refl) (λ o h. refl) s calls.0 in
+    ap (λ w. w ∷ map parsed_line_words (with_program ds p ss)) same ∙ ap (λ l. instruction_words ds s ∷ l) (program_words ds p ss calls.1)
 
 -- a program's parsed lines declare nothing
-declared_program : (ds : List Declaration) (t : ℕ) (p : List Statement) (ss : List ParsedLine) → AllByRecursion (IsStatement ds) p → declarations_of t (with_program ds p ss) ≡ declarations_of t ss
+declared_program : (ds : List Declaration) (t : ℕ) (p : List Instruction) (ss : List ParsedLine) → AllByRecursion (IsInstruction ds) p → declarations_of t (with_program ds p ss) ≡ declarations_of t ss
 declared_program ds t [] ss calls = refl
 declared_program ds t (s ∷ p) ss calls =
-    by_call ds (λ u. declarations_of t (statement_says ds u ∷ with_program ds p ss) ≡ declarations_of t (with_program ds p ss)) (λ o h. refl) (λ o h. refl) s calls.0
+    by_call ds (λ u. declarations_of t (instruction_says ds u ∷ with_program ds p ss) ≡ declarations_of t (with_program ds p ss)) (λ o h. refl) (λ o h. refl) s calls.0
     ∙ declared_program ds t p ss calls.1
 
 -- a call in front of a program
-put_in_front : (s : Statement) (p : List Statement) (o : Option (List (List Statement))) → option_map (put_statement s) (option_map (λ ps. p ∷ ps) o) ≡ option_map (λ ps. (s ∷ p) ∷ ps) o
+put_in_front : (s : Instruction) (p : List Instruction) (o : Option (List (List Instruction))) → option_map (put_instruction s) (option_map (λ ps. p ∷ ps) o) ≡ option_map (λ ps. (s ∷ p) ∷ ps) o
 put_in_front s p None = refl
 put_in_front s p (Some ps) = refl
 
 -- a program's parsed lines give the program
-program_read : (ds : List Declaration) → IsKnown ds → (p : List Statement) (ss : List ParsedLine) → AllByRecursion (IsStatement ds) p → programs_of ds true (with_program ds p ss) ≡ option_map (λ ps. p ∷ ps) (programs_of ds false ss)
+program_read : (ds : List Declaration) → IsKnown ds → (p : List Instruction) (ss : List ParsedLine) → AllByRecursion (IsInstruction ds) p → programs_of ds true (with_program ds p ss) ≡ option_map (λ ps. p ∷ ps) (programs_of ds false ss)
 program_read ds known [] ss calls = refl
 program_read ds known (s ∷ p) ss calls =
     let rest = programs_of ds true (with_program ds p ss) in
-    let put = λ (t : Statement). ap (λ o. option_map (put_statement t) o) (program_read ds known p ss calls.1) ∙ put_in_front t p (programs_of ds false ss) in
-    by_call ds (λ t. programs_of ds true (statement_says ds t ∷ with_program ds p ss) ≡ option_map (λ ps. (t ∷ p) ∷ ps) (programs_of ds false ss))
-    (λ o h. ap (λ c. put_call (option_map (λ object. statement.Call object op.Lock) c) rest) (known.numbers o h) ∙ put (statement.Call o op.Lock))
-    (λ o h. ap (λ c. put_call (option_map (λ object. statement.Call object op.Unlock) c) rest) (known.numbers o h) ∙ put (statement.Call o op.Unlock))
+    let put = λ (t : Instruction). ap (λ o. option_map (put_instruction t) o) (program_read ds known p ss calls.1) ∙ put_in_front t p (programs_of ds false ss) in
+    by_call ds (λ t. programs_of ds true (instruction_says ds t ∷ with_program ds p ss) ≡ option_map (λ ps. (t ∷ p) ∷ ps) (programs_of ds false ss))
+    (λ o h. ap (λ c. put_call (option_map (λ object. instruction.Call object opcode.Lock operand.Nothing) c) rest) (known.numbers o h) ∙ put (instruction.Call o opcode.Lock operand.Nothing))
+    (λ o h. ap (λ c. put_call (option_map (λ object. instruction.Call object opcode.Unlock operand.Nothing) c) rest) (known.numbers o h) ∙ put (instruction.Call o opcode.Unlock operand.Nothing))
     s calls.0
 
 -- what the lemmas below know of the exercise
 record IsSpoken (x : ExerciseView) : Type 0 where
   known : IsKnown x.objects
-  calls : (t : ℕ) → AllByRecursion (IsStatement x.objects) (program_of x t)
+  calls : (t : ℕ) → AllByRecursion (IsInstruction x.objects) (instructions_of x t)
 
 -- the name and the kind are ones that a text can have
 abbrev IsPlain : Declaration → Type 0
@@ -115,7 +116,7 @@ named_for x h [] plain = tt
 named_for x h (d ∷ ds) plain =
     let rest = named_for x h ds plain.1 in
     by_kind (λ k. AllByRecursion IsNamed (with_block x d.name k (parsed_lines_for x ds))) (plain.0.0, rest)
-    (λ own. (plain.0.0, named_program x.objects h.known (program_of x own) (parsed_lines_for x ds) (h.calls own) rest))
+    (λ own. (plain.0.0, named_program x.objects h.known (instructions_of x own) (parsed_lines_for x ds) (h.calls own) rest))
     d.kind plain.0.1
 
 words_for : (x : ExerciseView) → IsSpoken x → (ds : List Declaration) → AllByRecursion IsPlain ds → map parsed_line_words (parsed_lines_for x ds) ≡ flat_map (block_of x) ds
@@ -123,17 +124,17 @@ words_for x h [] plain = refl
 words_for x h (d ∷ ds) plain =
     let ss = parsed_lines_for x ds in
     by_kind (λ k. map parsed_line_words (with_block x d.name k ss) ≡ block_of_kind x d.name k ++ map parsed_line_words ss) refl
-    (λ own. ap (λ l. (codes "thread" ∷ d.name ∷ []) ∷ l) (program_words x.objects (program_of x own) ss (h.calls own) ∙ sym (append_assoc (map (statement_words x.objects) (program_of x own)) ((codes "end" ∷ []) ∷ []) (map parsed_line_words ss))))
+    (λ own. ap (λ l. (codes "thread" ∷ d.name ∷ []) ∷ l) (program_words x.objects (instructions_of x own) ss (h.calls own) ∙ sym (append_assoc (map (instruction_words x.objects) (instructions_of x own)) ((codes "end" ∷ []) ∷ []) (map parsed_line_words ss))))
     d.kind plain.0.1
     ∙ ap (λ l. block_of x d ++ l) (words_for x h ds plain.1)
 
 -- the parsed lines of a thread's block declare the next thread
-declared_thread : (x : ExerciseView) (name : List ℕ) (ds : List Declaration) (ss : List ParsedLine) (t n own : ℕ) → AllByRecursion (IsStatement x.objects) (program_of x own) → ((u m : ℕ) → filter_map thread_of ds ≡ range_with_len u m → declarations_of u ss ≡ ds) → own ∷ filter_map thread_of ds ≡ range_with_len t n → declarations_of t (says.Thread name ∷ with_program x.objects (program_of x own) ss) ≡ record { name = name; kind = kind.Thread own false } ∷ ds
+declared_thread : (x : ExerciseView) (name : List ℕ) (ds : List Declaration) (ss : List ParsedLine) (t n own : ℕ) → AllByRecursion (IsInstruction x.objects) (instructions_of x own) → ((u m : ℕ) → filter_map thread_of ds ≡ range_with_len u m → declarations_of u ss ≡ ds) → own ∷ filter_map thread_of ds ≡ range_with_len t n → declarations_of t (says.Thread name ∷ with_program x.objects (instructions_of x own) ss) ≡ record { name = name; kind = kind.Thread own false } ∷ ds
 declared_thread x name ds ss t zero own calls ih e = (cc)
 declared_thread x name ds ss t (suc n) own calls ih e =
     let first : own ≡ t = cc in
     let rest : filter_map thread_of ds ≡ range_with_len (t + 1) n = cc in
-    ap (λ l. record { name = name; kind = kind.Thread t false } ∷ l) (declared_program x.objects (t + 1) (program_of x own) ss calls ∙ ih (t + 1) n rest)
+    ap (λ l. record { name = name; kind = kind.Thread t false } ∷ l) (declared_program x.objects (t + 1) (instructions_of x own) ss calls ∙ ih (t + 1) n rest)
     ∙ ap (λ u. record { name = name; kind = kind.Thread u false } ∷ ds) (sym first)
 
 -- the parsed lines of a block declare its object
@@ -148,16 +149,16 @@ declared_for x h [] t n plain e = refl
 declared_for x h (d ∷ ds) t n plain e =
     declared_block x h d.name ds (parsed_lines_for x ds) t n (λ u m f. declared_for x h ds u m plain.1 f) d.kind plain.0.1 e
 
-programs_for : (x : ExerciseView) → IsSpoken x → (ds : List Declaration) → AllByRecursion IsPlain ds → programs_of x.objects false (parsed_lines_for x ds) ≡ Some (map (program_of x) (filter_map thread_of ds))
+programs_for : (x : ExerciseView) → IsSpoken x → (ds : List Declaration) → AllByRecursion IsPlain ds → programs_of x.objects false (parsed_lines_for x ds) ≡ Some (map (instructions_of x) (filter_map thread_of ds))
 programs_for x h [] plain = refl
 programs_for x h (d ∷ ds) plain =
     let rest = programs_for x h ds plain.1 in
-    by_kind (λ k. programs_of x.objects false (with_block x d.name k (parsed_lines_for x ds)) ≡ Some (map (program_of x) (cons_option (thread_of_kind k) (filter_map thread_of ds)))) rest
-    (λ own. program_read x.objects h.known (program_of x own) (parsed_lines_for x ds) (h.calls own) ∙ ap (λ o. option_map (λ ps. program_of x own ∷ ps) o) rest)
+    by_kind (λ k. programs_of x.objects false (with_block x d.name k (parsed_lines_for x ds)) ≡ Some (map (instructions_of x) (cons_option (thread_of_kind k) (filter_map thread_of ds)))) rest
+    (λ own. program_read x.objects h.known (instructions_of x own) (parsed_lines_for x ds) (h.calls own) ∙ ap (λ o. option_map (λ ps. instructions_of x own ∷ ps) o) rest)
     d.kind plain.0.1
 
 -- a list by its numbers
-by_numbers : (f : ℕ → List Statement) (ps : List (List Statement)) (t : ℕ) → ((i : ℕ) → f (t + i) ≡ slice_index_or ps i []) → map f (range_with_len t (length ps)) ≡ ps
+by_numbers : (f : ℕ → List Instruction) (ps : List (List Instruction)) (t : ℕ) → ((i : ℕ) → f (t + i) ≡ slice_index_or ps i []) → map f (range_with_len t (length ps)) ≡ ps
 by_numbers f [] t h = refl
 by_numbers f (p ∷ ps) t h =
     let here : t ≡ t + 0 = omega arith in
@@ -208,9 +209,9 @@ are_fit-true (d ∷ ds) main once =
     ap (λ b. not (b || list_any (λ e. bytes_eq e.name d.name) ds) && are_fit ds) not_main ∙ ap (λ b. not b && are_fit ds) new ∙ rest
 
 -- each program is short
-all_short : (ps : List (List Statement)) → ((t : ℕ) → length (slice_index_or ps t []) ≤ MOST_STATEMENTS) → list_all is_short ps ≡ true
+all_short : (ps : List (List Instruction)) → ((t : ℕ) → length (slice_index_or ps t []) ≤ MOST_INSTRUCTIONS) → list_all is_short ps ≡ true
 all_short [] h = refl
-all_short (p ∷ ps) h = ap (λ b. b && list_all is_short ps) (le-leb (length p) MOST_STATEMENTS (h 0)) ∙ all_short ps (λ t. h (suc t))
+all_short (p ∷ ps) h = ap (λ b. b && list_all is_short ps) (le-leb (length p) MOST_INSTRUCTIONS (h 0)) ∙ all_short ps (λ t. h (suc t))
 
 -- the exercise's mutexes and calls
 known_in : (x : ExerciseView) → IsWellFormed x → IsKnown x.objects
@@ -224,7 +225,7 @@ known_in x h = record {
 spoken : (x : ExerciseView) → IsWellFormed x → IsSpoken x
 spoken x h = record {
   known = known_in x h;
-  calls = λ t. by_place (IsStatement x.objects) (program_of x t) (λ k s e. h.statements t k s e);
+  calls = λ t. by_place (IsInstruction x.objects) (instructions_of x t) (λ k s e. h.instructions t k s e);
 }
 
 plain_objects : (x : ExerciseView) → IsWellFormed x → AllByRecursion IsPlain x.objects
@@ -236,7 +237,7 @@ exercise_by-all x h =
     let ss = parsed_lines_for x x.objects in
     let plain = plain_objects x h in
     let objects : objects_of ss ≡ Some x.objects = ap unless_too_many (declared_for x (spoken x h) x.objects 1 (length x.programs) plain h.numbered) ∙ cond-true (nat_le (length x.objects) MOST_OBJECTS) _ _ (le-leb (length x.objects) MOST_OBJECTS h.few_objects) in
-    let numbers : map (program_of x) (filter_map thread_of x.objects) ≡ x.programs = ap (map (program_of x)) h.numbered ∙ by_numbers (program_of x) x.programs 1 (λ i. let next : 1 + i ≡ suc i = omega arith in ap (program_of x) next) in
+    let numbers : map (instructions_of x) (filter_map thread_of x.objects) ≡ x.programs = ap (map (instructions_of x)) h.numbered ∙ by_numbers (instructions_of x) x.programs 1 (λ i. let next : 1 + i ≡ suc i = omega arith in ap (instructions_of x) next) in
     let programs : programs_of x.objects false ss ≡ Some x.programs = programs_for x (spoken x h) x.objects plain ∙ ap (λ ps. Some ps) numbers in
     let fit = are_fit-true x.objects (λ o d e. (h.names o d e).1) h.once in
     let short : are_short x.programs ≡ true = ap (λ b. b && list_all is_short x.programs) (le-leb (length x.programs) MOST_THREADS h.few_threads) ∙ all_short x.programs (λ t. h.short (suc t)) in

@@ -7,3 +7,4 @@ pub mod ReaderSoundLemmas
 pub mod Complete
 pub mod Readings
 pub mod OwnNumbers
+pub mod ThreadCalls

@@ -5,20 +5,21 @@ use Rattle.std.specs.List.{AllByRecursion, list_all, list_any, range_with_len}
 use Rattle.std.specs.Str.{bytes_eq}
 use Rattle.std.proofs.lemmas.Bool.{false≢true, leb-true}
 use Rattle.std.proofs.lemmas.Slice.Eq.{bytes_eq-Decides}
-use Rattle.tm_base.specs.declared.operations.Op.TheVariants as op
+use Rattle.tm_base.specs.declared.opcodes.Opcode.TheVariants as opcode
+use Rattle.tm_programs.specs.declared.instructions.Operand.TheVariants as operand
 use Rattle.tm_base.specs.declared.kinds.Kind.{Kind}
 use Rattle.tm_base.specs.declared.kinds.Kind.TheVariants as kind
 use Rattle.tm_base.specs.declared.limits.TheConstants.{MOST_THREADS}
 use Rattle.tm_base.specs.Names.{IsName}
 use Rattle.tm_text.specs.declared.exercises.Declaration.{Declaration}
-use Rattle.tm_text.specs.declared.exercises.Statement.{Statement}
-use Rattle.tm_text.specs.declared.exercises.Statement.TheVariants as statement
-use Rattle.tm_text.specs.declared.limits.TheConstants.{MOST_OBJECTS, MOST_STATEMENTS}
+use Rattle.tm_programs.specs.declared.instructions.Instruction.{Instruction}
+use Rattle.tm_programs.specs.declared.instructions.Instruction.TheVariants as instruction
+use Rattle.tm_text.specs.declared.limits.TheConstants.{MOST_OBJECTS, MOST_INSTRUCTIONS}
 use Rattle.tm_text.specs.declared.parsed_lines.ParsedLine.{ParsedLine}
 use Rattle.tm_text.specs.declared.parsed_lines.ParsedLine.TheVariants as says
-use Rattle.tm_text.specs.Exercises.{ExerciseView, IsOfKind, IsStatement, IsKindRead, IsWellFormed, program_of, thread_of}
-use Rattle.tm_text.specs.Grammar.{block_of, name_at, name_of, statement_words, spelled}
-use Rattle.tm_text.specs.Reading.{IsNamed, are_fit, are_short, call_of, declarations_of, is_mutex, is_mutex_kind, is_short, mutex_from, programs_of, put_call, put_statement}
+use Rattle.tm_text.specs.Exercises.{ExerciseView, IsOfKind, IsInstruction, IsKindRead, IsWellFormed, instructions_of, thread_of}
+use Rattle.tm_text.specs.Grammar.{block_of, name_at, name_of, instruction_words, spelled}
+use Rattle.tm_text.specs.Reading.{IsNamed, are_fit, are_short, call_of, declarations_of, is_mutex, is_mutex_kind, is_short, mutex_from, programs_of, put_call, put_instruction}
 use Rattle.tm_text.proofs.SpelledLemmas.{parsed_line_words, both, chosen, mapped}
 
 -- the fact of the value, where there is one
@@ -93,119 +94,119 @@ mutex_found ds name o e =
     (name_in ds o f.object there ∙ f.named, (f.object, there, f.mutex))
 
 -- the line and the object of a call
-abbrev CallsOn : List Declaration → List ℕ → List ℕ → Statement → Type 0
-CallsOn ds word name s = (statement_words ds s ≡ word ∷ name ∷ []) × IsStatement ds s
+abbrev CallsOn : List Declaration → List ℕ → List ℕ → Instruction → Type 0
+CallsOn ds word name s = (instruction_words ds s ≡ word ∷ name ∷ []) × IsInstruction ds s
 
-lock_calls : (ds : List Declaration) (name : List ℕ) (s : Statement) → call_of ds op.Lock name ≡ Some s → CallsOn ds (codes "lock") name s
+lock_calls : (ds : List Declaration) (name : List ℕ) (s : Instruction) → call_of ds opcode.Lock name ≡ Some s → CallsOn ds (codes "lock") name s
 lock_calls ds name s e =
-    let m = mapped (λ object. statement.Call object op.Lock) (mutex_from 0 name ds) s e in
+    let m = mapped (λ object. instruction.Call object opcode.Lock operand.Nothing) (mutex_from 0 name ds) s e in
     let f = mutex_found ds name m.0 m.1 in
-    let P : Statement → Type 0 = λ t. CallsOn ds (codes "lock") name t in
+    let P : Instruction → Type 0 = λ t. CallsOn ds (codes "lock") name t in
     subst P m.2 (ap (λ n. codes "lock" ∷ n ∷ []) f.0, f.1)
 
-unlock_calls : (ds : List Declaration) (name : List ℕ) (s : Statement) → call_of ds op.Unlock name ≡ Some s → CallsOn ds (codes "unlock") name s
+unlock_calls : (ds : List Declaration) (name : List ℕ) (s : Instruction) → call_of ds opcode.Unlock name ≡ Some s → CallsOn ds (codes "unlock") name s
 unlock_calls ds name s e =
-    let m = mapped (λ object. statement.Call object op.Unlock) (mutex_from 0 name ds) s e in
+    let m = mapped (λ object. instruction.Call object opcode.Unlock operand.Nothing) (mutex_from 0 name ds) s e in
     let f = mutex_found ds name m.0 m.1 in
-    let P : Statement → Type 0 = λ t. CallsOn ds (codes "unlock") name t in
+    let P : Instruction → Type 0 = λ t. CallsOn ds (codes "unlock") name t in
     subst P m.2 (ap (λ n. codes "unlock" ∷ n ∷ []) f.0, f.1)
 
 -- a call and the programs that it stands in front of
-called : (call : Option Statement) (o : Option (List (List Statement))) (ps : List (List Statement)) → put_call call o ≡ Some ps → (s : Statement) × (qs : List (List Statement)) × (call ≡ Some s) × (o ≡ Some qs) × (put_statement s qs ≡ ps)
+called : (call : Option Instruction) (o : Option (List (List Instruction))) (ps : List (List Instruction)) → put_call call o ≡ Some ps → (s : Instruction) × (qs : List (List Instruction)) × (call ≡ Some s) × (o ≡ Some qs) × (put_instruction s qs ≡ ps)
 called call o ps e =
-    let b = both (λ t. option_map (put_statement t) o) call ps e in
-    let m = mapped (put_statement b.0) o ps b.2 in
+    let b = both (λ t. option_map (put_instruction t) o) call ps e in
+    let m = mapped (put_instruction b.0) o ps b.2 in
     (b.0, m.0, b.1, m.1, m.2)
 
-put_left : (s : Statement) (qs ps : List (List Statement)) → put_statement s qs ≡ ps → 0 < length qs → 0 < length ps
+put_left : (s : Instruction) (qs ps : List (List Instruction)) → put_instruction s qs ≡ ps → 0 < length qs → 0 < length ps
 put_left s [] ps e h = absurd (omega arith)
 put_left s (q ∷ qs) ps e h =
-    let P : List (List Statement) → Type 0 = λ l. 0 < length l in
+    let P : List (List Instruction) → Type 0 = λ l. 0 < length l in
     let one : 0 < length ((s ∷ q) ∷ qs) = omega arith in
     subst P e one
 
 -- inside a thread there is a program that is left
-left_over : (ds : List Declaration) (ss : List ParsedLine) (ps : List (List Statement)) → programs_of ds true ss ≡ Some ps → 0 < length ps
+left_over : (ds : List Declaration) (ss : List ParsedLine) (ps : List (List Instruction)) → programs_of ds true ss ≡ Some ps → 0 < length ps
 left_over ds [] ps e = (cc)
 left_over ds (says.Mutex n ∷ ss) ps e = (cc)
 left_over ds (says.Thread n ∷ ss) ps e = (cc)
 left_over ds (says.Lock n ∷ ss) ps e =
-    let c = called (call_of ds op.Lock n) (programs_of ds true ss) ps e in
+    let c = called (call_of ds opcode.Lock n) (programs_of ds true ss) ps e in
     put_left c.0 c.1 ps c.4 (left_over ds ss c.1 c.3)
 left_over ds (says.Unlock n ∷ ss) ps e =
-    let c = called (call_of ds op.Unlock n) (programs_of ds true ss) ps e in
+    let c = called (call_of ds opcode.Unlock n) (programs_of ds true ss) ps e in
     put_left c.0 c.1 ps c.4 (left_over ds ss c.1 c.3)
 left_over ds (says.End ∷ ss) ps e =
     let m = mapped (λ qs. [] ∷ qs) (programs_of ds false ss) ps e in
-    let P : List (List Statement) → Type 0 = λ qs. 0 < length qs in
+    let P : List (List Instruction) → Type 0 = λ qs. 0 < length qs in
     let one : 0 < length ([] ∷ m.0) = omega arith in
     subst P m.2 one
 
 -- The words of parsed lines, with this the next thread: outside of a thread those of what they
--- declare, and inside of one first those of the statements that are left.
-abbrev Words : ExerciseView → Bool → ℕ → List (List Statement) → List ParsedLine → Type 0
+-- declare, and inside of one first those of the instructions that are left.
+abbrev Words : ExerciseView → Bool → ℕ → List (List Instruction) → List ParsedLine → Type 0
 Words x false t ps ss = map parsed_line_words ss ≡ flat_map (block_of x) (declarations_of t ss)
 Words x true t ps ss =
-    map parsed_line_words ss ≡ map (statement_words x.objects) (slice_index_or ps 0 []) ++ ((codes "end" ∷ []) ∷ flat_map (block_of x) (declarations_of t ss))
+    map parsed_line_words ss ≡ map (instruction_words x.objects) (slice_index_or ps 0 []) ++ ((codes "end" ∷ []) ∷ flat_map (block_of x) (declarations_of t ss))
 
 -- The programs are those of the threads from the next one on; inside of a thread the first is left
 -- out.
-abbrev AreFrom : ExerciseView → Bool → ℕ → List (List Statement) → Type 0
-AreFrom x false t ps = (i : ℕ) → program_of x (t + i) ≡ slice_index_or ps i []
-AreFrom x true t ps = (i : ℕ) → program_of x (t + i) ≡ slice_index_or ps (suc i) []
+abbrev AreFrom : ExerciseView → Bool → ℕ → List (List Instruction) → Type 0
+AreFrom x false t ps = (i : ℕ) → instructions_of x (t + i) ≡ slice_index_or ps i []
+AreFrom x true t ps = (i : ℕ) → instructions_of x (t + i) ≡ slice_index_or ps (suc i) []
 
 -- a call in front of a program that is left
-words_of_call : (x : ExerciseView) (t : ℕ) (words : List (List ℕ)) (ss : List ParsedLine) (s : Statement) (qs ps : List (List Statement)) → 0 < length qs → put_statement s qs ≡ ps → statement_words x.objects s ≡ words → Words x true t qs ss → words ∷ map parsed_line_words ss ≡ map (statement_words x.objects) (slice_index_or ps 0 []) ++ ((codes "end" ∷ []) ∷ flat_map (block_of x) (declarations_of t ss))
+words_of_call : (x : ExerciseView) (t : ℕ) (words : List (List ℕ)) (ss : List ParsedLine) (s : Instruction) (qs ps : List (List Instruction)) → 0 < length qs → put_instruction s qs ≡ ps → instruction_words x.objects s ≡ words → Words x true t qs ss → words ∷ map parsed_line_words ss ≡ map (instruction_words x.objects) (slice_index_or ps 0 []) ++ ((codes "end" ∷ []) ∷ flat_map (block_of x) (declarations_of t ss))
 words_of_call x t words ss s [] ps h e w i = absurd (omega arith)
 words_of_call x t words ss s (q ∷ qs) ps h e w i =
-    let P : List (List Statement) → Type 0 = λ l. words ∷ map parsed_line_words ss ≡ map (statement_words x.objects) (slice_index_or l 0 []) ++ ((codes "end" ∷ []) ∷ flat_map (block_of x) (declarations_of t ss)) in
-    subst P e (ap (λ l. words ∷ l) i ∙ ap (λ v. v ∷ (map (statement_words x.objects) q ++ ((codes "end" ∷ []) ∷ flat_map (block_of x) (declarations_of t ss)))) (sym w))
+    let P : List (List Instruction) → Type 0 = λ l. words ∷ map parsed_line_words ss ≡ map (instruction_words x.objects) (slice_index_or l 0 []) ++ ((codes "end" ∷ []) ∷ flat_map (block_of x) (declarations_of t ss)) in
+    subst P e (ap (λ l. words ∷ l) i ∙ ap (λ v. v ∷ (map (instruction_words x.objects) q ++ ((codes "end" ∷ []) ∷ flat_map (block_of x) (declarations_of t ss)))) (sym w))
 
 -- the programs after the first stay behind a call
-from_call : (x : ExerciseView) (t : ℕ) (s : Statement) (qs ps : List (List Statement)) → put_statement s qs ≡ ps → AreFrom x true t ps → AreFrom x true t qs
+from_call : (x : ExerciseView) (t : ℕ) (s : Instruction) (qs ps : List (List Instruction)) → put_instruction s qs ≡ ps → AreFrom x true t ps → AreFrom x true t qs
 from_call x t s [] ps e h i = h i ∙ ap (λ l. slice_index_or l (suc i) []) (sym e)
 from_call x t s (q ∷ qs) ps e h i = h i ∙ ap (λ l. slice_index_or l (suc i) []) (sym e)
 
 -- the words of a thread's block
-words_of_thread : (x : ExerciseView) (t : ℕ) (name : List ℕ) (p : List Statement) (blocks : List (List (List ℕ))) → program_of x t ≡ p → (codes "thread" ∷ name ∷ []) ∷ (map (statement_words x.objects) p ++ ((codes "end" ∷ []) ∷ blocks)) ≡ block_of x (record { name = name; kind = kind.Thread t false }) ++ blocks
+words_of_thread : (x : ExerciseView) (t : ℕ) (name : List ℕ) (p : List Instruction) (blocks : List (List (List ℕ))) → instructions_of x t ≡ p → (codes "thread" ∷ name ∷ []) ∷ (map (instruction_words x.objects) p ++ ((codes "end" ∷ []) ∷ blocks)) ≡ block_of x (record { name = name; kind = kind.Thread t false }) ++ blocks
 words_of_thread x t name p blocks e =
-    ap (λ q. (codes "thread" ∷ name ∷ []) ∷ (map (statement_words x.objects) q ++ ((codes "end" ∷ []) ∷ blocks))) (sym e)
-    ∙ ap (λ l. (codes "thread" ∷ name ∷ []) ∷ l) (sym (append_assoc (map (statement_words x.objects) (program_of x t)) ((codes "end" ∷ []) ∷ []) blocks))
+    ap (λ q. (codes "thread" ∷ name ∷ []) ∷ (map (instruction_words x.objects) q ++ ((codes "end" ∷ []) ∷ blocks))) (sym e)
+    ∙ ap (λ l. (codes "thread" ∷ name ∷ []) ∷ l) (sym (append_assoc (map (instruction_words x.objects) (instructions_of x t)) ((codes "end" ∷ []) ∷ []) blocks))
 
-spells : (x : ExerciseView) (ss : List ParsedLine) (b : Bool) (t : ℕ) (ps : List (List Statement)) → programs_of x.objects b ss ≡ Some ps → AreFrom x b t ps → Words x b t ps ss
+spells : (x : ExerciseView) (ss : List ParsedLine) (b : Bool) (t : ℕ) (ps : List (List Instruction)) → programs_of x.objects b ss ≡ Some ps → AreFrom x b t ps → Words x b t ps ss
 spells x [] false t ps e h = refl
 spells x [] true t ps e h = (cc)
 spells x (says.Mutex n ∷ ss) false t ps e h = ap (λ l. (codes "mutex" ∷ n ∷ []) ∷ l) (spells x ss false t ps e h)
 spells x (says.Mutex n ∷ ss) true t ps e h = (cc)
 spells x (says.Thread n ∷ ss) false t ps e h =
-    let after : AreFrom x true (t + 1) ps = λ i. let next : t + 1 + i ≡ t + suc i = omega arith in ap (program_of x) next ∙ h (suc i) in
+    let after : AreFrom x true (t + 1) ps = λ i. let next : t + 1 + i ≡ t + suc i = omega arith in ap (instructions_of x) next ∙ h (suc i) in
     let here : t ≡ t + 0 = omega arith in
     ap (λ l. (codes "thread" ∷ n ∷ []) ∷ l) (spells x ss true (t + 1) ps e after)
-    ∙ words_of_thread x t n (slice_index_or ps 0 []) (flat_map (block_of x) (declarations_of (t + 1) ss)) (ap (program_of x) here ∙ h 0)
+    ∙ words_of_thread x t n (slice_index_or ps 0 []) (flat_map (block_of x) (declarations_of (t + 1) ss)) (ap (instructions_of x) here ∙ h 0)
 spells x (says.Thread n ∷ ss) true t ps e h = (cc)
 spells x (says.Lock n ∷ ss) false t ps e h = (cc)
 spells x (says.Lock n ∷ ss) true t ps e h =
-    let c = called (call_of x.objects op.Lock n) (programs_of x.objects true ss) ps e in
+    let c = called (call_of x.objects opcode.Lock n) (programs_of x.objects true ss) ps e in
     words_of_call x t (codes "lock" ∷ n ∷ []) ss c.0 c.1 ps (left_over x.objects ss c.1 c.3) c.4 (lock_calls x.objects n c.0 c.2).0
     (spells x ss true t c.1 c.3 (from_call x t c.0 c.1 ps c.4 h))
 spells x (says.Unlock n ∷ ss) false t ps e h = (cc)
 spells x (says.Unlock n ∷ ss) true t ps e h =
-    let c = called (call_of x.objects op.Unlock n) (programs_of x.objects true ss) ps e in
+    let c = called (call_of x.objects opcode.Unlock n) (programs_of x.objects true ss) ps e in
     words_of_call x t (codes "unlock" ∷ n ∷ []) ss c.0 c.1 ps (left_over x.objects ss c.1 c.3) c.4 (unlock_calls x.objects n c.0 c.2).0
     (spells x ss true t c.1 c.3 (from_call x t c.0 c.1 ps c.4 h))
 spells x (says.End ∷ ss) false t ps e h = (cc)
 spells x (says.End ∷ ss) true t ps e h =
     let m = mapped (λ qs. [] ∷ qs) (programs_of x.objects false ss) ps e in
     let after : AreFrom x false t m.0 = λ i. h i ∙ ap (λ l. slice_index_or l (suc i) []) (sym m.2) in
-    let P : List (List Statement) → Type 0 = λ l. Words x true t l (says.End ∷ ss) in
+    let P : List (List Instruction) → Type 0 = λ l. Words x true t l (says.End ∷ ss) in
     let first : Words x true t ([] ∷ m.0) (says.End ∷ ss) = ap (λ l. (codes "end" ∷ []) ∷ l) (spells x ss false t m.0 m.1 after) in
     subst P m.2 first
 
 -- parsed lines spell what the reader makes of them
-pub parsed_lines-spelled : (ss : List ParsedLine) (ds : List Declaration) (ps : List (List Statement)) → declarations_of 1 ss ≡ ds → programs_of ds false ss ≡ Some ps → map parsed_line_words ss ≡ spelled (record { objects = ds; programs = ps })
+pub parsed_lines-spelled : (ss : List ParsedLine) (ds : List Declaration) (ps : List (List Instruction)) → declarations_of 1 ss ≡ ds → programs_of ds false ss ≡ Some ps → map parsed_line_words ss ≡ spelled (record { objects = ds; programs = ps })
 parsed_lines-spelled ss ds ps d e =
     let x : ExerciseView = record { objects = ds; programs = ps } in
-    let from : AreFrom x false 1 ps = λ i. let next : 1 + i ≡ suc i = omega arith in ap (program_of x) next in
+    let from : AreFrom x false 1 ps = λ i. let next : 1 + i ≡ suc i = omega arith in ap (instructions_of x) next in
     spells x ss false 1 ps e from ∙ ap (flat_map (block_of x)) d
 
 -- the names and kinds of what is declared
@@ -226,22 +227,22 @@ declared_is (says.Unlock n ∷ ss) t o d h e = declared_is ss t o d h.1 e
 declared_is (says.End ∷ ss) t o d h e = declared_is ss t o d h.1 e
 
 -- after the first of the programs, or after none
-abbrev after_first : Bool → List (List Statement) → List (List Statement)
+abbrev after_first : Bool → List (List Instruction) → List (List Instruction)
 after_first false ps = ps
 after_first true ps = drop 1 ps
 
-after_put : (s : Statement) (qs ps : List (List Statement)) → put_statement s qs ≡ ps → drop 1 ps ≡ drop 1 qs
+after_put : (s : Instruction) (qs ps : List (List Instruction)) → put_instruction s qs ≡ ps → drop 1 ps ≡ drop 1 qs
 after_put s [] ps e = ap (λ l. drop 1 l) (sym e)
 after_put s (q ∷ qs) ps e = ap (λ l. drop 1 l) (sym e)
 
-front_number : (t : ℕ) (ps : List (List Statement)) → 0 < length ps → t ∷ range_with_len (t + 1) (length (drop 1 ps)) ≡ range_with_len t (length ps)
+front_number : (t : ℕ) (ps : List (List Instruction)) → 0 < length ps → t ∷ range_with_len (t + 1) (length (drop 1 ps)) ≡ range_with_len t (length ps)
 front_number t [] h = absurd (omega arith)
 front_number t (p ∷ ps) h = refl
 
 -- threads are numbered in order, one for each program
-numbered : (ds : List Declaration) (ss : List ParsedLine) (b : Bool) (t : ℕ) (ps : List (List Statement)) → programs_of ds b ss ≡ Some ps → filter_map thread_of (declarations_of t ss) ≡ range_with_len t (length (after_first b ps))
+numbered : (ds : List Declaration) (ss : List ParsedLine) (b : Bool) (t : ℕ) (ps : List (List Instruction)) → programs_of ds b ss ≡ Some ps → filter_map thread_of (declarations_of t ss) ≡ range_with_len t (length (after_first b ps))
 numbered ds [] false t ps e =
-    let none : ◌≡◌ {A = List (List Statement)} [] ps = cc in
+    let none : ◌≡◌ {A = List (List Instruction)} [] ps = cc in
     ap (λ l. range_with_len t (length l)) none
 numbered ds [] true t ps e = (cc)
 numbered ds (says.Mutex n ∷ ss) false t ps e = numbered ds ss false t ps e
@@ -251,11 +252,11 @@ numbered ds (says.Thread n ∷ ss) false t ps e =
 numbered ds (says.Thread n ∷ ss) true t ps e = (cc)
 numbered ds (says.Lock n ∷ ss) false t ps e = (cc)
 numbered ds (says.Lock n ∷ ss) true t ps e =
-    let c = called (call_of ds op.Lock n) (programs_of ds true ss) ps e in
+    let c = called (call_of ds opcode.Lock n) (programs_of ds true ss) ps e in
     numbered ds ss true t c.1 c.3 ∙ ap (λ l. range_with_len t (length l)) (sym (after_put c.0 c.1 ps c.4))
 numbered ds (says.Unlock n ∷ ss) false t ps e = (cc)
 numbered ds (says.Unlock n ∷ ss) true t ps e =
-    let c = called (call_of ds op.Unlock n) (programs_of ds true ss) ps e in
+    let c = called (call_of ds opcode.Unlock n) (programs_of ds true ss) ps e in
     numbered ds ss true t c.1 c.3 ∙ ap (λ l. range_with_len t (length l)) (sym (after_put c.0 c.1 ps c.4))
 numbered ds (says.End ∷ ss) false t ps e = (cc)
 numbered ds (says.End ∷ ss) true t ps e =
@@ -263,18 +264,18 @@ numbered ds (says.End ∷ ss) true t ps e =
     numbered ds ss false t m.0 m.1 ∙ ap (λ l. range_with_len t (length (drop 1 l))) m.2
 
 -- what programs call
-abbrev AreCalls : List Declaration → List (List Statement) → Type 0
-AreCalls ds ps = AllByRecursion (λ p. AllByRecursion (IsStatement ds) p) ps
+abbrev AreCalls : List Declaration → List (List Instruction) → Type 0
+AreCalls ds ps = AllByRecursion (λ p. AllByRecursion (IsInstruction ds) p) ps
 
-calls_put : (ds : List Declaration) (s : Statement) (qs ps : List (List Statement)) → put_statement s qs ≡ ps → IsStatement ds s → AreCalls ds qs → AreCalls ds ps
+calls_put : (ds : List Declaration) (s : Instruction) (qs ps : List (List Instruction)) → put_instruction s qs ≡ ps → IsInstruction ds s → AreCalls ds qs → AreCalls ds ps
 calls_put ds s [] ps e h calls = subst (AreCalls ds) e tt
 calls_put ds s (q ∷ qs) ps e h calls =
     let more : AreCalls ds ((s ∷ q) ∷ qs) = ((h, calls.0), calls.1) in
     subst (AreCalls ds) e more
 
-are_calls : (ds : List Declaration) (ss : List ParsedLine) (b : Bool) (ps : List (List Statement)) → programs_of ds b ss ≡ Some ps → AreCalls ds ps
+are_calls : (ds : List Declaration) (ss : List ParsedLine) (b : Bool) (ps : List (List Instruction)) → programs_of ds b ss ≡ Some ps → AreCalls ds ps
 are_calls ds [] false ps e =
-    let none : ◌≡◌ {A = List (List Statement)} [] ps = cc in
+    let none : ◌≡◌ {A = List (List Instruction)} [] ps = cc in
     subst (AreCalls ds) none tt
 are_calls ds [] true ps e = (cc)
 are_calls ds (says.Mutex n ∷ ss) false ps e = are_calls ds ss false ps e
@@ -283,11 +284,11 @@ are_calls ds (says.Thread n ∷ ss) false ps e = are_calls ds ss true ps e
 are_calls ds (says.Thread n ∷ ss) true ps e = (cc)
 are_calls ds (says.Lock n ∷ ss) false ps e = (cc)
 are_calls ds (says.Lock n ∷ ss) true ps e =
-    let c = called (call_of ds op.Lock n) (programs_of ds true ss) ps e in
+    let c = called (call_of ds opcode.Lock n) (programs_of ds true ss) ps e in
     calls_put ds c.0 c.1 ps c.4 (lock_calls ds n c.0 c.2).1 (are_calls ds ss true c.1 c.3)
 are_calls ds (says.Unlock n ∷ ss) false ps e = (cc)
 are_calls ds (says.Unlock n ∷ ss) true ps e =
-    let c = called (call_of ds op.Unlock n) (programs_of ds true ss) ps e in
+    let c = called (call_of ds opcode.Unlock n) (programs_of ds true ss) ps e in
     calls_put ds c.0 c.1 ps c.4 (unlock_calls ds n c.0 c.2).1 (are_calls ds ss true c.1 c.3)
 are_calls ds (says.End ∷ ss) false ps e = (cc)
 are_calls ds (says.End ∷ ss) true ps e =
@@ -303,14 +304,14 @@ at_place P (y ∷ ys) zero x h e =
     subst Given e h.0
 at_place P (y ∷ ys) (suc k) x h e = at_place P ys k x h.1 e
 
-statement_is : (ds : List Declaration) (ps : List (List Statement)) (t k : ℕ) (s : Statement) → AreCalls ds ps → slice_get (slice_index_or ps t []) k ≡ Some s → IsStatement ds s
-statement_is ds [] t k s h e = (cc)
-statement_is ds (p ∷ ps) zero k s h e = at_place (IsStatement ds) p k s h.0 e
-statement_is ds (p ∷ ps) (suc t) k s h e = statement_is ds ps t k s h.1 e
+instruction_is : (ds : List Declaration) (ps : List (List Instruction)) (t k : ℕ) (s : Instruction) → AreCalls ds ps → slice_get (slice_index_or ps t []) k ≡ Some s → IsInstruction ds s
+instruction_is ds [] t k s h e = (cc)
+instruction_is ds (p ∷ ps) zero k s h e = at_place (IsInstruction ds) p k s h.0 e
+instruction_is ds (p ∷ ps) (suc t) k s h e = instruction_is ds ps t k s h.1 e
 
-short_is : (ps : List (List Statement)) (t : ℕ) → list_all is_short ps ≡ true → length (slice_index_or ps t []) ≤ MOST_STATEMENTS
+short_is : (ps : List (List Instruction)) (t : ℕ) → list_all is_short ps ≡ true → length (slice_index_or ps t []) ≤ MOST_INSTRUCTIONS
 short_is [] t h = omega arith
-short_is (p ∷ ps) zero h = leb-true (length p) MOST_STATEMENTS (both_true (is_short p) (list_all is_short ps) h).0
+short_is (p ∷ ps) zero h = leb-true (length p) MOST_INSTRUCTIONS (both_true (is_short p) (list_all is_short ps) h).0
 short_is (p ∷ ps) (suc t) h = short_is ps t (both_true (is_short p) (list_all is_short ps) h).1
 
 -- names that pass the test
@@ -350,16 +351,16 @@ once (b ∷ ds) (suc o) zero c d h e f same =
     absurd (false≢true (sym none ∙ (bytes_eq-Decides c.name b.name).1 (same ∙ sym (ap (λ a. a.name) is))))
 once (b ∷ ds) (suc o) (suc p) c d h e f same = ap suc (once ds o p c d (main_not b ds h).2 e f same)
 
-short_programs : (x : ExerciseView) → list_all is_short x.programs ≡ true → (t : ℕ) → length (program_of x t) ≤ MOST_STATEMENTS
+short_programs : (x : ExerciseView) → list_all is_short x.programs ≡ true → (t : ℕ) → length (instructions_of x t) ≤ MOST_INSTRUCTIONS
 short_programs x h zero = omega arith
 short_programs x h (suc t) = short_is x.programs t h
 
-called_statements : (x : ExerciseView) → AreCalls x.objects x.programs → (t k : ℕ) (s : Statement) → slice_get (program_of x t) k ≡ Some s → IsStatement x.objects s
-called_statements x h zero k s e = (cc)
-called_statements x h (suc t) k s e = statement_is x.objects x.programs t k s h e
+called_instructions : (x : ExerciseView) → AreCalls x.objects x.programs → (t k : ℕ) (s : Instruction) → slice_get (instructions_of x t) k ≡ Some s → IsInstruction x.objects s
+called_instructions x h zero k s e = (cc)
+called_instructions x h (suc t) k s e = instruction_is x.objects x.programs t k s h e
 
 -- what the reader makes of parsed lines is well formed
-pub well_formed : (ss : List ParsedLine) (ds : List Declaration) (ps : List (List Statement)) → AllByRecursion IsNamed ss → declarations_of 1 ss ≡ ds → length ds ≤ MOST_OBJECTS → are_fit ds ≡ true → programs_of ds false ss ≡ Some ps → are_short ps ≡ true → IsWellFormed (record { objects = ds; programs = ps })
+pub well_formed : (ss : List ParsedLine) (ds : List Declaration) (ps : List (List Instruction)) → AllByRecursion IsNamed ss → declarations_of 1 ss ≡ ds → length ds ≤ MOST_OBJECTS → are_fit ds ≡ true → programs_of ds false ss ≡ Some ps → are_short ps ≡ true → IsWellFormed (record { objects = ds; programs = ps })
 well_formed ss ds ps named d few fit e short =
     let x : ExerciseView = record { objects = ds; programs = ps } in
     let sizes = both_true (nat_le (length ps) MOST_THREADS) (list_all is_short ps) short in
@@ -372,5 +373,5 @@ well_formed ss ds ps named d few fit e short =
       once = λ o p b c at_o at_p same. once ds o p b c fit at_o at_p same;
       kinds = λ o c at. (is o c at).1;
       numbered = ap (λ l. filter_map thread_of l) (sym d) ∙ numbered ds ss false 1 ps e;
-      statements = called_statements x (are_calls ds ss false ps e);
+      instructions = called_instructions x (are_calls ds ss false ps e);
     }

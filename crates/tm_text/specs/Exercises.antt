@@ -1,26 +1,38 @@
 -- Exercises as contracts see them.
-use Rattle.std.specs.Prelude.{◌≡◌, ◌≢◌, ℕ, zero, suc, ◌+◌, ◌≤◌, Bool, false, ◌==◌, if◌then◌else◌, List, [], ◌∷◌, length, codes, filter_map, slice_get, slice_index_or, Option, Some, None}
+use Rattle.std.specs.Prelude.{◌≡◌, ◌≢◌, ℕ, zero, suc, ◌+◌, ◌≤◌, pos, Bool, true, false, ◌&&◌, ◌==◌, if◌then◌else◌, List, [], ◌∷◌, length, codes, filter_map, slice_get, slice_index_or, Option, Some, None}
 use Rattle.std.specs.List.{range_with_len}
-use Rattle.tm_base.specs.declared.operations.Op.TheVariants as op
+use Rattle.tm_base.specs.declared.opcodes.Opcode.TheVariants as opcode
+use Rattle.tm_programs.specs.declared.instructions.Operand.TheVariants as operand
 use Rattle.tm_base.specs.declared.kinds.Kind.{Kind}
 use Rattle.tm_base.specs.declared.kinds.Kind.TheVariants as kind
 use Rattle.tm_base.specs.declared.limits.TheConstants.{MOST_THREADS}
 use Rattle.tm_base.specs.Names.{IsName}
 use Rattle.tm_text.specs.declared.exercises.Declaration.{Declaration}
-use Rattle.tm_text.specs.declared.exercises.Statement.{Statement}
-use Rattle.tm_text.specs.declared.exercises.Statement.TheVariants as statement
-use Rattle.tm_text.specs.declared.limits.TheConstants.{MOST_OBJECTS, MOST_STATEMENTS}
+use Rattle.tm_base.specs.Fits.{fits}
+use Rattle.tm_base.specs.Opcodes.{op_with}
+use Rattle.tm_base.specs.declared.opcodes.Opcode.{Opcode}
+use Rattle.tm_programs.specs.declared.instructions.Instruction.{Instruction}
+use Rattle.tm_programs.specs.declared.instructions.Operand.{Operand}
+use Rattle.tm_programs.specs.Programs.{Program, condition_of}
+use Rattle.tm_programs.specs.Instructions.{IsNested, program_of}
+use Rattle.tm_programs.specs.Calls.{AllCallsPass}
+use Rattle.tm_programs.specs.declared.instructions.Instruction.TheVariants as instruction
+use Rattle.tm_text.specs.declared.limits.TheConstants.{MOST_OBJECTS, MOST_INSTRUCTIONS}
 
 -- The objects with their names and kinds in order of declaration, and a program for each thread,
 -- from thread 1.
 pub record ExerciseView : Type 0 where
   pub objects : List Declaration
-  pub programs : List (List Statement)
+  pub programs : List (List Instruction)
 
 -- The thread's program, and none for `main`.
-abbrev pub program_of : ExerciseView → ℕ → List Statement
-program_of x zero = []
-program_of x (suc t) = slice_index_or x.programs t []
+abbrev pub instructions_of : ExerciseView → ℕ → List Instruction
+instructions_of x zero = []
+instructions_of x (suc t) = slice_index_or x.programs t []
+
+-- The program that they spell.
+abbrev pub program_of_thread : ExerciseView → ℕ → Program
+program_of_thread x t = program_of (instructions_of x t)
 
 -- The kind is that of this thread's own object.
 abbrev pub is_own : ℕ → Kind → Bool
@@ -46,10 +58,26 @@ abbrev pub IsOfKind : List Declaration → ℕ → Kind → Type 0
 IsOfKind ds o k = (d : Declaration) × (slice_get ds o ≡ Some d) × (d.kind ≡ k)
 
 -- The calls that a text can have: locks and unlocks of mutexes.
-abbrev pub IsStatement : List Declaration → Statement → Type 0
-IsStatement ds (statement.Call object op.Lock) = IsOfKind ds object kind.Mutex
-IsStatement ds (statement.Call object op.Unlock) = IsOfKind ds object kind.Mutex
-IsStatement ds s = ⊥
+abbrev pub IsInstruction : List Declaration → Instruction → Type 0
+IsInstruction ds (instruction.Call object opcode.Lock operand.Nothing) = IsOfKind ds object kind.Mutex
+IsInstruction ds (instruction.Call object opcode.Unlock operand.Nothing) = IsOfKind ds object kind.Mutex
+IsInstruction ds s = ⊥
+
+-- A program can ask the operation: it is none of `begin`, `end`, `resume` and `stop`.
+abbrev pub is_asked : Opcode → Bool
+is_asked opcode.Begin = false
+is_asked opcode.End = false
+is_asked opcode.Resume = false
+is_asked opcode.Stop = false
+is_asked code = true
+
+-- The call is of an operation that the object has, if it is there; what value it takes makes no difference.
+abbrev pub is_call_of : Option Declaration → Opcode → Operand → Bool
+is_call_of None code with = false
+is_call_of (Some d) code with = is_asked code && fits (op_with code (condition_of with) (pos 0)) d.kind
+
+abbrev pub is_call_on : List Declaration → ℕ → Opcode → Operand → Bool
+is_call_on ds object code with = is_call_of (slice_get ds object) code with
 
 -- The kinds of the objects that a text can have: mutexes, and threads that aren't held.
 abbrev pub IsKindRead : Kind → Type 0
@@ -59,14 +87,22 @@ IsKindRead k = ⊥
 
 -- What holds of every exercise that was read.
 pub record IsWellFormed (x : ExerciseView) : Type 0 where
-  -- the objects, the threads and the statements of each program are within their limits
+  -- the objects, the threads and the instructions of each program are within their limits
   pub few_objects : length x.objects ≤ MOST_OBJECTS
   pub few_threads : length x.programs ≤ MOST_THREADS
-  pub short : (t : ℕ) → length (program_of x t) ≤ MOST_STATEMENTS
+  pub short : (t : ℕ) → length (instructions_of x t) ≤ MOST_INSTRUCTIONS
   -- every object's name is a name, is not `main`, and is that of no other object
   pub names : (o : ℕ) (d : Declaration) → slice_get x.objects o ≡ Some d → IsName d.name × (d.name ≢ codes "main")
   pub once : (o p : ℕ) (c d : Declaration) → slice_get x.objects o ≡ Some c → slice_get x.objects p ≡ Some d → c.name ≡ d.name → o ≡ p
   pub kinds : (o : ℕ) (d : Declaration) → slice_get x.objects o ≡ Some d → IsKindRead d.kind
   -- the threads are numbered from 1 in order of declaration
   pub numbered : filter_map thread_of x.objects ≡ range_with_len 1 (length x.programs)
-  pub statements : (t k : ℕ) (s : Statement) → slice_get (program_of x t) k ≡ Some s → IsStatement x.objects s
+  pub instructions : (t k : ℕ) (s : Instruction) → slice_get (instructions_of x t) k ≡ Some s → IsInstruction x.objects s
+
+-- In a well-formed exercise every call of a program is one that its object has.
+abbrev pub CallsFit : Type 0
+CallsFit = (x : ExerciseView) (t : ℕ) → IsWellFormed x → AllCallsPass (is_call_on x.objects) (program_of_thread x t)
+
+-- And its instructions are nested.
+abbrev pub ProgramsAreNested : Type 0
+ProgramsAreNested = (x : ExerciseView) (t : ℕ) → IsWellFormed x → IsNested (instructions_of x t)

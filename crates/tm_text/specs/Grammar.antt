@@ -1,14 +1,15 @@
 -- The text of exercises: its lines, their words, and the exercise that they spell.
 use Rattle.std.specs.Prelude.{◌≡◌, ℕ, ◌≤◌, Bool, true, false, not, ◌&&◌, ◌||◌, ◌==◌, nat_le, if◌then◌else◌, List, [], ◌∷◌, ◌++◌, map, filter, flat_map, length, codes, All, slice_get, Option, Some, None}
 use Rattle.std.specs.List.{AllPass}
-use Rattle.tm_base.specs.declared.operations.Op.TheVariants as op
+use Rattle.tm_base.specs.declared.opcodes.Opcode.TheVariants as opcode
+use Rattle.tm_programs.specs.declared.instructions.Operand.TheVariants as operand
 use Rattle.tm_base.specs.declared.kinds.Kind.{Kind}
 use Rattle.tm_base.specs.declared.kinds.Kind.TheVariants as kind
 use Rattle.tm_text.specs.declared.exercises.Declaration.{Declaration}
-use Rattle.tm_text.specs.declared.exercises.Statement.{Statement}
-use Rattle.tm_text.specs.declared.exercises.Statement.TheVariants as statement
+use Rattle.tm_programs.specs.declared.instructions.Instruction.{Instruction}
+use Rattle.tm_programs.specs.declared.instructions.Instruction.TheVariants as instruction
 use Rattle.tm_text.specs.declared.limits.TheConstants.{MOST_BYTES}
-use Rattle.tm_text.specs.Exercises.{ExerciseView, IsWellFormed, program_of}
+use Rattle.tm_text.specs.Exercises.{ExerciseView, IsWellFormed, instructions_of}
 
 -- The lists with the byte in front of the first, or a list of the byte alone where there is none.
 abbrev pub put_first : ℕ → List (List ℕ) → List (List ℕ)
@@ -64,18 +65,18 @@ name_at (Some d) = d.name
 abbrev pub name_of : List Declaration → ℕ → List ℕ
 name_of ds o = name_at (slice_get ds o)
 
--- The words of a statement's line.
-abbrev pub statement_words : List Declaration → Statement → List (List ℕ)
-statement_words ds (statement.Call object op.Lock) = codes "lock" ∷ name_of ds object ∷ []
-statement_words ds (statement.Call object op.Unlock) = codes "unlock" ∷ name_of ds object ∷ []
-statement_words ds s = []
+-- The words of an instruction's line.
+abbrev pub instruction_words : List Declaration → Instruction → List (List ℕ)
+instruction_words ds (instruction.Call object opcode.Lock operand.Nothing) = codes "lock" ∷ name_of ds object ∷ []
+instruction_words ds (instruction.Call object opcode.Unlock operand.Nothing) = codes "unlock" ∷ name_of ds object ∷ []
+instruction_words ds s = []
 
 -- The lines, as words, that declare an object of a kind: one, and for a thread its program's and
 -- `end`.
 abbrev pub block_of_kind : ExerciseView → List ℕ → Kind → List (List (List ℕ))
 block_of_kind x name kind.Mutex = (codes "mutex" ∷ name ∷ []) ∷ []
 block_of_kind x name (kind.Thread own held) =
-    (codes "thread" ∷ name ∷ []) ∷ map (statement_words x.objects) (program_of x own) ++ (codes "end" ∷ []) ∷ []
+    (codes "thread" ∷ name ∷ []) ∷ map (instruction_words x.objects) (instructions_of x own) ++ (codes "end" ∷ []) ∷ []
 block_of_kind x name k = []
 
 -- The lines, as words, that declare an object.

@@ -1,4 +1,3 @@
-pub mod Programs
 pub mod Exercises
 pub mod StoredExercises
 pub mod Grammar

@@ -4,14 +4,15 @@ use Rattle.std.specs.List.{list_all, list_any}
 use Rattle.std.specs.Str.{bytes_eq}
 use Rattle.tm_base.specs.declared.limits.TheConstants.{MOST_THREADS}
 use Rattle.tm_base.specs.Names.{IsName, is_name}
-use Rattle.tm_base.specs.declared.operations.Op.{Op}
-use Rattle.tm_base.specs.declared.operations.Op.TheVariants as op
+use Rattle.tm_base.specs.declared.opcodes.Opcode.{Opcode}
+use Rattle.tm_base.specs.declared.opcodes.Opcode.TheVariants as opcode
+use Rattle.tm_programs.specs.declared.instructions.Operand.TheVariants as operand
 use Rattle.tm_base.specs.declared.kinds.Kind.{Kind}
 use Rattle.tm_base.specs.declared.kinds.Kind.TheVariants as kind
 use Rattle.tm_text.specs.declared.exercises.Declaration.{Declaration}
-use Rattle.tm_text.specs.declared.exercises.Statement.{Statement}
-use Rattle.tm_text.specs.declared.exercises.Statement.TheVariants as statement
-use Rattle.tm_text.specs.declared.limits.TheConstants.{MOST_BYTES, MOST_OBJECTS, MOST_STATEMENTS}
+use Rattle.tm_programs.specs.declared.instructions.Instruction.{Instruction}
+use Rattle.tm_programs.specs.declared.instructions.Instruction.TheVariants as instruction
+use Rattle.tm_text.specs.declared.limits.TheConstants.{MOST_BYTES, MOST_OBJECTS, MOST_INSTRUCTIONS}
 use Rattle.tm_text.specs.declared.no_exercises.NoExercise.{NoExercise}
 use Rattle.tm_text.specs.declared.no_exercises.NoExercise.TheVariants as no
 use Rattle.tm_text.specs.declared.parsed_lines.ParsedLine.{ParsedLine}
@@ -129,51 +130,51 @@ mutex_from o name [] = None
 mutex_from o name (d ∷ ds) = if is_mutex name d then Some o else mutex_from (o + 1) name ds
 
 -- The call of an operation on the mutex of this name.
-abbrev pub call_of : List Declaration → Op → List ℕ → Option Statement
-call_of ds o name = option_map (λ object. statement.Call object o) (mutex_from 0 name ds)
+abbrev pub call_of : List Declaration → Opcode → List ℕ → Option Instruction
+call_of ds code name = option_map (λ object. instruction.Call object code operand.Nothing) (mutex_from 0 name ds)
 
--- The programs with the statement in front of the first.
-abbrev pub put_statement : Statement → List (List Statement) → List (List Statement)
-put_statement s [] = []
-put_statement s (p ∷ ps) = (s ∷ p) ∷ ps
+-- The programs with the instruction in front of the first.
+abbrev pub put_instruction : Instruction → List (List Instruction) → List (List Instruction)
+put_instruction s [] = []
+put_instruction s (p ∷ ps) = (s ∷ p) ∷ ps
 
 -- The programs with the call in front of the first, where both are given.
-abbrev pub put_call : Option Statement → Option (List (List Statement)) → Option (List (List Statement))
-put_call s ps = option_and_then (λ t. option_map (put_statement t) ps) s
+abbrev pub put_call : Option Instruction → Option (List (List Instruction)) → Option (List (List Instruction))
+put_call s ps = option_and_then (λ t. option_map (put_instruction t) ps) s
 
 -- The programs of the threads that parsed lines declare. Inside a thread the first is what is left
 -- of its program.
-abbrev pub programs_of : List Declaration → Bool → List ParsedLine → Option (List (List Statement))
+abbrev pub programs_of : List Declaration → Bool → List ParsedLine → Option (List (List Instruction))
 programs_of ds false [] = Some []
 programs_of ds true [] = None
 programs_of ds false (says.Mutex name ∷ ss) = programs_of ds false ss
 programs_of ds false (says.Thread name ∷ ss) = programs_of ds true ss
-programs_of ds true (says.Lock name ∷ ss) = put_call (call_of ds op.Lock name) (programs_of ds true ss)
-programs_of ds true (says.Unlock name ∷ ss) = put_call (call_of ds op.Unlock name) (programs_of ds true ss)
+programs_of ds true (says.Lock name ∷ ss) = put_call (call_of ds opcode.Lock name) (programs_of ds true ss)
+programs_of ds true (says.Unlock name ∷ ss) = put_call (call_of ds opcode.Unlock name) (programs_of ds true ss)
 programs_of ds true (says.End ∷ ss) = option_map (λ ps. [] ∷ ps) (programs_of ds false ss)
 programs_of ds inside (s ∷ ss) = None
 
--- The programs with the statements of the open program in front of the first.
-abbrev pub put_open : List Statement → List (List Statement) → List (List Statement)
+-- The programs with the instructions of the open program in front of the first.
+abbrev pub put_open : List Instruction → List (List Instruction) → List (List Instruction)
 put_open open_program [] = []
 put_open open_program (p ∷ ps) = (open_program ++ p) ∷ ps
 
 -- The programs that were closed, and that of the thread that is open, where one is, with what the
 -- parsed lines that follow add.
-abbrev pub spelled_after : List Declaration → List (List Statement) → Option (List Statement) → List ParsedLine → Option (List (List Statement))
+abbrev pub spelled_after : List Declaration → List (List Instruction) → Option (List Instruction) → List ParsedLine → Option (List (List Instruction))
 spelled_after ds closed None ss = option_map (λ ps. closed ++ ps) (programs_of ds false ss)
 spelled_after ds closed (Some p) ss = option_map (λ ps. closed ++ put_open p ps) (programs_of ds true ss)
 
--- The program has no more statements than a program may have.
-abbrev pub is_short : List Statement → Bool
-is_short p = nat_le (length p) MOST_STATEMENTS
+-- The program has no more instructions than a program may have.
+abbrev pub is_short : List Instruction → Bool
+is_short p = nat_le (length p) MOST_INSTRUCTIONS
 
 -- There are no more programs than an exercise may have threads, and each is short enough.
-abbrev pub are_short : List (List Statement) → Bool
+abbrev pub are_short : List (List Instruction) → Bool
 are_short ps = nat_le (length ps) MOST_THREADS && list_all is_short ps
 
 -- The exercise of these objects and programs, where the programs are few and short enough.
-abbrev pub with_programs : List Declaration → List (List Statement) → Option ExerciseView
+abbrev pub with_programs : List Declaration → List (List Instruction) → Option ExerciseView
 with_programs ds ps = if are_short ps then Some (record { objects = ds; programs = ps }) else None
 
 -- The exercise of these objects whose programs the parsed lines spell.

@@ -3,7 +3,7 @@ use Rattle.std.specs.Prelude.{◌≡◌, ℕ, suc, ◌<◌, map, length, slice_g
 use Rattle.tm_text.specs.declared.exercises.Exercise.TheInside.{Inside}
 use Rattle.tm_text.specs.Exercises.{ExerciseView, IsWellFormed, own_of}
 
--- What contracts see: the objects, and the statements of each thread's program.
+-- What contracts see: the objects, and the instructions of each thread's program.
 abbrev pub exercise_view : Inside → ExerciseView
 exercise_view x = record { objects = x.objects.items; programs = map (λ p. p.items) x.programs.items }
 

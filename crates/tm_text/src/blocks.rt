@@ -2,18 +2,19 @@ ghost use Rattle.std.specs.Prelude.{◌≡◌, ◌≤◌, ◌∷◌, List, false
 ghost use Rattle.std.specs.List.{list_all};
 ghost use Rattle.tm_text.specs.Reading.{Fails, Gives, are_short, is_short, call_of, mutex_from, programs_of, spelled_after};
 
-use crate::exercises::{Declaration, Statement};
-use crate::limits::{MOST_OBJECTS, MOST_STATEMENTS};
+use crate::exercises::Declaration;
+use crate::limits::{MOST_OBJECTS, MOST_INSTRUCTIONS};
 use crate::no_exercises::NoExercise;
 use crate::parsed_lines::ParsedLine;
 use std::alloc::Global;
-use tm_base::{Kind, MOST_THREADS, Name, Op};
+use tm_base::{Kind, MOST_THREADS, Name, Opcode};
+use tm_programs::{Instruction, Operand};
 
 /// The programs of the threads that were closed, and that of the thread that is open, where one is.
 #[derive(Drop)]
 struct Blocks {
-    closed: Vec<Vec<Statement>>,
-    begun: Option<Vec<Statement>>,
+    closed: Vec<Vec<Instruction>>,
+    begun: Option<Vec<Instruction>>,
 }
 
 /// The programs of the threads that the parsed lines declare, in order.
@@ -21,7 +22,7 @@ pub fn programs(
     alloc: Global,
     objects: &[Declaration],
     parsed_lines: &[ParsedLine],
-) -> Result<Vec<Vec<Statement>>, NoExercise>
+) -> Result<Vec<Vec<Instruction>>, NoExercise>
     requires { length objects.now ≤ MOST_OBJECTS }
     ensures { Gives (λ v. map (λ p. p.items) v.items) result (programs_of objects.now false parsed_lines.now) }
 {
@@ -61,7 +62,7 @@ fn step(
 /// Goes on by one parsed line where no thread is open.
 fn step_outside(
     alloc: Global,
-    closed: Vec<Vec<Statement>>,
+    closed: Vec<Vec<Instruction>>,
     parsed_line: ParsedLine,
 ) -> Result<Blocks, NoExercise>
     ensures text { IfErr result (λ e. e ≡ NoExercise.Text) }
@@ -81,8 +82,8 @@ fn step_outside(
 /// Goes on by one parsed line where a thread is open.
 fn step_inside(
     objects: &[Declaration],
-    mut closed: Vec<Vec<Statement>>,
-    mut program: Vec<Statement>,
+    mut closed: Vec<Vec<Instruction>>,
+    mut program: Vec<Instruction>,
     parsed_line: ParsedLine,
 ) -> Result<Blocks, NoExercise>
     requires { length objects.now ≤ MOST_OBJECTS }
@@ -92,8 +93,8 @@ fn step_inside(
         (λ e. Fails e (spelled_after objects.now (map (λ p. p.items) closed.items) (Some program.items) (parsed_line ∷ ss))) }
 {
     match parsed_line {
-        ParsedLine::Lock(name) => program.push(call(objects, name, Op::Lock)?)?,
-        ParsedLine::Unlock(name) => program.push(call(objects, name, Op::Unlock)?)?,
+        ParsedLine::Lock(name) => program.push(call(objects, name, Opcode::Lock)?)?,
+        ParsedLine::Unlock(name) => program.push(call(objects, name, Opcode::Unlock)?)?,
         ParsedLine::End => {
             closed.push(program)?;
             return Ok(Blocks {
@@ -110,14 +111,18 @@ fn step_inside(
 }
 
 /// The call of an operation on the mutex with this name.
-fn call(objects: &[Declaration], name: Name, op: Op) -> Result<Statement, NoExercise>
+fn call(objects: &[Declaration], name: Name, opcode: Opcode) -> Result<Instruction, NoExercise>
     requires { length objects.now ≤ MOST_OBJECTS }
-    ensures value { Gives (λ s. s) result (call_of objects.now op name) }
+    ensures value { Gives (λ s. s) result (call_of objects.now opcode name) }
     ensures text { IfErr result (λ e. e ≡ NoExercise.Text) }
 {
     match mutex(objects, name) {
         None => Err(NoExercise::Text),
-        Some(object) => Ok(Statement::Call { object, op }),
+        Some(object) => Ok(Instruction::Call {
+            object,
+            opcode,
+            operand: Operand::Nothing,
+        }),
     }
 }
 
@@ -135,14 +140,14 @@ fn mutex(objects: &[Declaration], name: Name) -> Option<u32>
 }
 
 /// Whether there are at most `MOST_THREADS` programs, and each is short enough.
-pub fn are_short(programs: &[Vec<Statement>]) -> bool
+pub fn are_short(programs: &[Vec<Instruction>]) -> bool
     ensures { result ≡ are_short (map (λ p. p.items) programs.now) }
 {
     programs.len() <= MOST_THREADS && are_each_short(programs)
 }
 
 /// Whether each program is short enough.
-fn are_each_short(programs: &[Vec<Statement>]) -> bool
+fn are_each_short(programs: &[Vec<Instruction>]) -> bool
     ensures { result ≡ list_all is_short (map (λ p. p.items) programs.now) }
 {
     for program in programs {
@@ -153,9 +158,9 @@ fn are_each_short(programs: &[Vec<Statement>]) -> bool
     true
 }
 
-/// Whether the program has at most `MOST_STATEMENTS` statements.
-fn is_short(program: &[Statement]) -> bool
+/// Whether the program has at most `MOST_INSTRUCTIONS` instructions.
+fn is_short(program: &[Instruction]) -> bool
     ensures { result ≡ is_short program.now }
 {
-    program.len() <= MOST_STATEMENTS
+    program.len() <= MOST_INSTRUCTIONS
 }

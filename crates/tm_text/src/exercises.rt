@@ -1,8 +1,9 @@
 ghost use Rattle.std.specs.Prelude.{◌≡◌, ◌≤◌, ◌<◌, ℕ, suc, IfSome, length, map, slice_get, Some};
-ghost use Rattle.tm_text.specs.Exercises.{ExerciseView, IsWellFormed, own_of, program_of};
+ghost use Rattle.tm_text.specs.Exercises.{ExerciseView, IsWellFormed, own_of, instructions_of};
 
 use std::marker::Model;
-use tm_base::{Kind, Name, Op};
+use tm_base::{Kind, Name};
+use tm_programs::Instruction;
 
 /// An object as the text declares it. A thread's object has the thread's name.
 #[derive(Clone, Copy, Debug, PartialEq, Eq)]
@@ -11,19 +12,12 @@ pub struct Declaration {
     pub kind: Kind,
 }
 
-/// A statement of a program.
-#[derive(Clone, Copy, Debug, PartialEq, Eq)]
-pub enum Statement {
-    /// A call of an operation on an object.
-    Call { object: u32, op: Op },
-}
-
 /// An exercise: objects with names and kinds, in order of declaration, and a program for each
 /// thread. Objects count from 0 and threads from 1; each thread has an object of its own.
 #[derive(Debug, Drop)]
 pub struct Exercise {
     objects: Vec<Declaration>,
-    programs: Vec<Vec<Statement>>,
+    programs: Vec<Vec<Instruction>>,
     owns: Vec<u32>,
 }
 
@@ -44,7 +38,7 @@ impl Exercise {
     /// objects.
     pub(crate) fn from_parts(
         objects: Vec<Declaration>,
-        programs: Vec<Vec<Statement>>,
+        programs: Vec<Vec<Instruction>>,
         owns: Vec<u32>,
     ) -> Exercise
         requires well_formed { IsWellFormed (record { objects = objects.items; programs = map (λ p. p.items) programs.items }) }
@@ -100,11 +94,11 @@ impl Exercise {
         self.owns[thread as usize - 1]
     }
 
-    /// The thread's program. The thread is 1 to `threads`.
-    pub fn program(&self, thread: u32) -> &[Statement]
+    /// The thread's instructions. The thread is 1 to `threads`.
+    pub fn instructions(&self, thread: u32) -> &[Instruction]
         requires program { 1 ≤ thread }
         requires known { thread ≤ length self.now.programs }
-        ensures { result.now ≡ program_of self.now thread }
+        ensures { result.now ≡ instructions_of self.now thread }
     {
         self.programs[thread as usize - 1].as_slice()
     }

@@ -4,6 +4,7 @@
 mod blocks;
 mod declarations;
 mod exercises;
+mod laws;
 mod limits;
 mod lines;
 mod no_exercises;
@@ -11,8 +12,9 @@ mod parsed_lines;
 mod reader;
 mod scripts;
 
-pub use exercises::{Declaration, Exercise, Statement};
-pub use limits::{MOST_BYTES, MOST_OBJECTS, MOST_STATEMENTS};
+pub use exercises::{Declaration, Exercise};
+pub use laws::{calls_fit, programs_are_nested};
+pub use limits::{MOST_BYTES, MOST_OBJECTS, MOST_INSTRUCTIONS};
 pub use no_exercises::NoExercise;
 pub use reader::{one_exercise, read};
 pub use scripts::Script;

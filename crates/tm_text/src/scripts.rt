@@ -1,28 +1,29 @@
-ghost use Rattle.std.specs.Prelude.{◌≡◌, ◌≤◌, [], drop, length, IfOk};
-ghost use Rattle.tm_text.specs.Exercises.{program_of};
-ghost use Rattle.tm_text.specs.Programs.{whole, answered, asked_of, left_after, next_ask};
+ghost use Rattle.std.specs.Prelude.{◌≡◌, ◌≤◌, IfOk, length};
+ghost use Rattle.tm_programs.specs.Programs.{Over, answered, asked_of, whole};
+ghost use Rattle.tm_text.specs.Exercises.{program_of_thread};
 
-use crate::exercises::{Exercise, Statement};
+use crate::exercises::Exercise;
 use std::alloc::Global;
 use std::marker::Model;
 use tm_base::{Ask, NoMemory, Reply};
+use tm_programs::Interpreter;
 
 /// A thread's program as it goes on. Contracts see what is left of it, with the last final reply.
-#[derive(Debug, Drop)]
+#[derive(Drop)]
 pub struct Script {
-    program: Vec<Statement>,
-    /// How many calls have their final reply.
-    done: usize,
-    last: Option<Reply>,
+    interpreter: Interpreter,
 }
 
 impl Model for Script {
-    ghost use Rattle.std.specs.Prelude.{drop};
-    ghost use Rattle.tm_text.specs.Programs.{Rest};
+    ghost use Rattle.tm_programs.specs.Programs.{Rest};
 
     ghost Value = { Rest };
 
-    ghost view = { λ s. record { left = drop s.done s.program.items; last = s.last } };
+    ghost use Rattle.tm_programs.specs.Codes.{rest_code};
+
+    ghost coded = { rest_code };
+
+    ghost view = { λ s. s.interpreter };
 }
 
 impl Script {
@@ -30,24 +31,21 @@ impl Script {
     pub fn make(alloc: Global, exercise: &Exercise, thread: u32) -> Result<Script, NoMemory>
         requires program { 1 ≤ thread }
         requires known { thread ≤ length exercise.now.programs }
-        ensures { IfOk result (λ s. s ≡ whole (program_of exercise.now thread)) }
+        ensures { IfOk result (λ s. s ≡ whole (program_of_thread exercise.now thread)) }
     {
-        let program = Vec::from_slice(alloc, exercise.program(thread))?;
+        // What holds of every exercise is known from this call.
+        let _threads = exercise.threads();
         Ok(Script {
-            program,
-            done: 0,
-            last: None,
+            interpreter: Interpreter::make(alloc, exercise.instructions(thread))?,
         })
     }
 
     /// A script that asks nothing. It takes no memory.
     pub fn empty(alloc: Global) -> Script
-        ensures { result ≡ whole [] }
+        ensures { result ≡ whole Over }
     {
         Script {
-            program: Vec::new(alloc),
-            done: 0,
-            last: None,
+            interpreter: Interpreter::empty(alloc),
         }
     }
 
@@ -56,47 +54,20 @@ impl Script {
     pub fn asked(&self) -> Option<Ask>
         ensures { result ≡ asked_of self.now }
     {
-        if matches!(self.last, Some(Reply::Stopped)) {
-            return None;
-        }
-        Some(next_ask(self.program.as_slice(), self.done))
+        self.interpreter.asked()
     }
 
     /// The last final reply: that of `begin`, or of the last call that has one.
     pub fn last(&self) -> Option<Reply>
         ensures { result ≡ self.now.last }
     {
-        self.last
+        self.interpreter.last()
     }
 
     /// Goes on by the final reply of `begin`, or of the call that was asked.
     pub fn answer(&mut self, reply: Reply)
         ensures { self.new ≡ answered self.old reply }
     {
-        self.done = done_after(self.program.as_slice(), self.done, self.last);
-        self.last = Some(reply);
-    }
-}
-
-/// What the statements from this one on ask next.
-fn next_ask(program: &[Statement], done: usize) -> Ask
-    ensures { result ≡ next_ask (drop done program.now) }
-{
-    if done >= program.len() {
-        return Ask::Over;
-    }
-    match program[done] {
-        Statement::Call { object, op } => Ask::Call { object, op },
-    }
-}
-
-/// How many calls have their final reply after one more: the first reply is that of `begin`.
-fn done_after(program: &[Statement], done: usize, last: Option<Reply>) -> usize
-    ensures { drop result program.now ≡ left_after last (drop done program.now) }
-{
-    match last {
-        None => done,
-        Some(_) if done < program.len() => done + 1,
-        Some(_) => done,
+        self.interpreter.answer(reply);
     }
 }

@@ -91,7 +91,7 @@ fn blanks_comments_and_carriage_returns_are_taken(rt: HostRuntime) -> Result<(),
 /// A text of a thread with this many statements.
 fn long(alloc: Global, statements: usize) -> Result<String, Fail> {
     let mut text = String::from_str(alloc, "mutex m\nthread A\n")?;
-    for _ in 0..statements {
+    for _ in 0..instructions {
         text.push_str("lock m\n")?;
     }
     text.push_str("end\n")?;

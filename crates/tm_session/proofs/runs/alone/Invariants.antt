@@ -13,4 +13,4 @@ invariant-loop-session g l = record {
 }
 
 abbrev pub decreases-loop-session : goal.decreases-loop-session
-decreases-loop-session g l = work (joint_of l.session.run.scene)
+decreases-loop-session g l = work l.limit (joint_of l.session.run.scene)

@@ -1,6 +1,6 @@
 use Rattle.std.proofs.Common.{◌≡◌, ◌∙◌, Some, false, true, List, map, sym, ap}
 use Rattle.std.proofs.lemmas.List.{length-map}
-use Rattle.tm_text.specs.declared.exercises.Statement.{Statement}
+use Rattle.tm_programs.specs.declared.instructions.Instruction.{Instruction}
 use Rattle.tm_text.specs.Reading.{are_fit, are_short, owns_of, programs_of}
 use Rattle.tm_text.proofs.OwnNumbers.{owns_are, owns_count}
 use Rattle.tm_text.proofs.ReaderSoundLemmas.{well_formed}
@@ -10,7 +10,7 @@ use Rattle.tm_text.proofs.reader.spelled.Goals as goal
 pub from_parts-requires-clause-well_formed : goal.from_parts-requires-clause-well_formed
 from_parts-requires-clause-well_formed c =
     let ds = c.in_ok-objects.objects.items in
-    let ps : List (List Statement) = map (λ p. p.items) c.in_ok-programs.programs.items in
+    let ps : List (List Instruction) = map (λ p. p.items) c.in_ok-programs.programs.items in
     let are = objects_are c.args.parsed_lines.now ds c.in_ok-objects.ensures in
     let fit : are_fit ds ≡ true = ap are_fit (sym c.as_slice.ensures.value) ∙ sym c.are_fit.ensures ∙ c.if-not-are_fit.false in
     let programs : programs_of ds false c.args.parsed_lines.now ≡ Some ps = ap (λ l. programs_of l false c.args.parsed_lines.now) (sym c.as_slice-2.ensures.value) ∙ c.in_ok-programs.ensures in

@@ -1,4 +1,4 @@
-use Rattle.std.proofs.Common.{◌≡◌, ◌≤◌, ℕ, List, [], length, refl, sym, ap, subst, arith}
+use Rattle.std.proofs.Common.{◌≡◌, ◌≤◌, ◌+◌, ◌*◌, ℕ, List, [], length, refl, sym, ap, subst, arith}
 use Rattle.tm_text.specs.Exercises.{IsWellFormed}
 use Rattle.tm_replay.specs.JointStates.{JointState, start}
 use Rattle.tm_replay.specs.SoundStates.{IsSoundJoint}
@@ -25,7 +25,8 @@ returns-clause-under_way c =
     let j = joint_of run.scene in
     let joint : j ≡ start x = ap (λ (p : RunState). p.joint) begun in
     let none : c.new.result.items ≡ [] = c.new.ensures.items in
-    let little : work j ≤ 1000000 = subst (λ (k : JointState). work k ≤ 1000000) (sym joint) (work-start x formed) in
+    let limit : ℕ = c.args.rules.limit in
+    let little : work limit j ≤ 64 * (2 * limit + 3) + 256 = subst (λ (k : JointState). work limit k ≤ 64 * (2 * limit + 3) + 256) (sym joint) (work-start x limit formed) in
     let len : length c.new.result.items ≡ 0 = ap length none in
     let last : run.last ≡ 0 = ap (λ (p : RunState). p.last) begun in
     record {
@@ -33,8 +34,8 @@ returns-clause-under_way c =
       sound = subst (IsSoundJoint x) (sym joint) (IsSoundJoint-start x formed);
       last = omega (arith, last);
       waited = subst (AreWaited j) (sym (ap (λ (p : RunState). p.stops) begun)) tt;
-      counted = subst (λ (n : ℕ). IsCounted n j) (sym len) (subst (IsCounted 0) (sym joint) (IsCounted-start x));
-      bounded = omega (arith, len, little);
+      counted = subst (λ (n : ℕ). IsCounted n j) (sym len) (subst (IsCounted 0) (sym joint) (IsCounted-start x formed));
+      bounded = omega (arith, len, little, c.requires.limit);
       bars = c.in_ok-bars.ensures;
       begins = subst (λ (es : List Entry). BeginsAlone x c.args.rules es (run_state_of run)) (sym none) begun;
       kept = rw none c.in_ok-run.ensures.kept;
