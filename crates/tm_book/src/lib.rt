@@ -3,6 +3,7 @@
 
 mod any_machines;
 mod books;
+mod kept;
 
 pub use any_machines::AnyMachine;
 pub use books::Book;

@@ -1,0 +1,21 @@
+ghost use Rattle.std.specs.Prelude.{◌≡◌};
+ghost use types.Logic.{sem};
+ghost use Rattle.tm_turn.specs.contracts.held.Held.{the_row};
+
+use crate::passes::Pass;
+use std::snapshot::Snapshot;
+
+/// The turn's value, while a pass holds the turn. It can't be dropped: it is spent by `give`.
+pub struct Held<V> {
+    /// The value.
+    pub value: V,
+    /// The pass that took it, as it was then.
+    pub(crate) from: Snapshot<Pass<V>>,
+}
+
+/// Another pass holds the turn.
+#[derive(Clone, Copy, Debug, PartialEq, Eq)]
+pub struct Busy {
+    /// The number of the pass that held the turn when this call lost it.
+    pub holder: u32,
+}

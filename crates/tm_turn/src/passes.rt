@@ -1,0 +1,34 @@
+ghost use Rattle.std.specs.Prelude.{◌≡◌};
+
+use crate::views::SeatView;
+use atomic_table::Seat;
+use std::marker::Model;
+
+/// What one thread has seen of a turn's history. Contracts see its number, the events that it has seen,
+/// the numbers that were split from it and those that it absorbed, whether it holds the turn, and how
+/// often it won and lost the turn. But for the number all of this stands in proofs alone.
+#[derive(Drop)]
+pub struct Pass<V> {
+    pub(crate) number: u32,
+    pub(crate) seat: Seat<Option<V>, SeatView>,
+}
+
+impl<V> Model for Pass<V> {
+    ghost use Rattle.std.specs.Prelude.{◌≡◌, true, false, [], ◌∷◌, None};
+    ghost use Rattle.tm_turn.specs.Passes.{PassView, pass_view};
+
+    ghost Value = { PassView };
+
+    ghost view = { λ p. pass_view p.seat.table_id p.seat.id p.seat.me.0 };
+
+    ghost invariant = { λ p. (p.seat.me.0.number ≡ p.number) × (p.seat.me.0.lives ≡ true) × (p.seat.me.0.knows ≡ true) × (p.seat.me.0.keeps ≡ false) × (p.seat.me.0.holds ≡ false → p.seat.me.1 ≡ []) × (p.seat.me.0.holds ≡ true → p.seat.me.1 ≡ (0, None) ∷ []) };
+}
+
+impl<V> Pass<V> {
+    /// The pass's number, which no call changes.
+    pub fn number(&self) -> u32
+        ensures { result ≡ self.now.number }
+    {
+        self.number
+    }
+}
