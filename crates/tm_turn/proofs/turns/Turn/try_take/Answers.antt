@@ -16,7 +16,7 @@ compare_exchange-found-requires g c =
       ap (λ p. p.turn) was ∙ c.requires.of.0 ∙ ap (λ t. t.turn) (sym c.self.view_is),
       omega arith,
       tries g.V.Kept.entries g.V.Kept.label (g.V.Kept.label table.key.value) table.table_id.slots seat.id seat.me.0 pass.1 pass.2 pass.3 idle
-      (c.pass.inside.number + 1) (add-one c.pass.inside.number ∙ ap suc (sym pass.0)) seat.me.1 (pass.4 idle),
+      (c.from-word.result + 1) (add-one c.from-word.result ∙ ap suc (c.from-word.ensures ∙ sym pass.0)) seat.me.1 (pass.4 idle),
     )
 
 pub exchange-requires : goal.exchange-requires
