@@ -36,6 +36,19 @@ module _ {V : Type 0} (entries : V → List Entry) (label : V → Label) (key : 
   abbrev pub Follows : State (Option V) SeatView → Type 0
   Follows = FollowsRule entries label key
 
+  -- a view that doesn't hold the turn may change, and the holder stays
+  pub still_held : (words new : List ℕ) (homes : List (maybe.Option (Option V))) (views : List SeatView) (history : List Entry) (id : ℕ) (v w : SeatView) (holder : Option ℕ)
+      → get_elem? views id ≡ some v → v.holds ≡ false → slice_index new 0 ≡ slice_index words 0
+      → IsHeld entries label key (record { words = words; homes = homes; views = views }) history holder
+      → IsHeld entries label key (record { words = new; homes = homes; views = set views id w }) history holder
+  still_held words new homes views history id v w None at idle same held = (same ∙ held.0, held.1)
+  still_held words new homes views history id v w (Some j) at idle same held =
+      let other : j ≢ id = λ e. clash held.0.holds held.2.holds (ap (λ (x : SeatView). x.holds) (some-injective held.0 v (sym held.1 ∙ ap (get_elem? views) e ∙ at)) ∙ idle) in (
+        held.0,
+        set_else views id j w other ∙ held.1,
+        subst (λ (n : ℕ). IsHolder n history held.0) (sym same) held.2,
+      )
+
   module _ (s : State (Option V) SeatView) (r : FollowsRule entries label key s) (id : ℕ) (v : SeatView) (at : get_elem? s.views id ≡ some v) where
     -- no number that was absorbed is a living pass's
     pub absorbed_out : v.lives ≡ true → (n : ℕ) → has n r.absorbed ≡ true → n ≢ v.number
@@ -58,17 +71,6 @@ module _ {V : Type 0} (entries : V → List Entry) (label : V → Label) (key : 
     its_turn holds =
         let held : IsHeld entries label key s r.history (Some id) = subst (IsHeld entries label key s r.history) ((r.each id v at).holds holds) r.turn in
         subst (IsHolder (slice_index s.words 0) r.history) (some-injective held.0 v (sym held.1 ∙ at)) held.2
-
-    -- nobody else's step takes the turn from its holder
-    pub still_held : (words : List ℕ) (w : SeatView) (holder : Option ℕ) → v.holds ≡ false → slice_index words 0 ≡ slice_index s.words 0 → IsHeld entries label key s r.history holder
-        → IsHeld entries label key (record { words = words; homes = s.homes; views = set s.views id w }) r.history holder
-    still_held words w None idle same held = (same ∙ held.0, held.1)
-    still_held words w (Some j) idle same held =
-        let other : j ≢ id = λ e. clash held.0.holds held.2.holds (ap (λ (x : SeatView). x.holds) (some-injective held.0 v (sym held.1 ∙ ap (get_elem? s.views) e ∙ at)) ∙ idle) in (
-          held.0,
-          set_else s.views id j w other ∙ held.1,
-          subst (λ (n : ℕ). IsHolder n r.history held.0) (sym same) held.2,
-        )
 
     module _ (lives : v.lives ≡ true) (knows : v.knows ≡ true) (seen : List Entry) (holds : Bool) (turns misses missed : ℕ) (keeps : Bool) (first second : List Entry) (joined : Option ℕ) (history : List Entry) (holder : Option ℕ) where
       abbrev after : SeatView

@@ -137,7 +137,7 @@ module _ {V : Type 0} (entries : V → List Entry) (label : V → Label) (key : 
                 keeps_none = still;
               })
               words s.homes (length-set s.words 0 n ∙ r.wide) (second_kept s.words n ∙ r.count)
-              (still_held entries label key s r id v at words w r.holder idle same_word r.turn),
+              (still_held entries label key s.words words s.homes s.views r.history id v w r.holder at idle same_word r.turn),
               (
                 λ unheld. absurd (some_word unheld),
                 λ _. record {

@@ -2,6 +2,7 @@
 #![tactic(auto)]
 
 mod held;
+mod joins;
 mod passes;
 mod rules;
 mod turns;

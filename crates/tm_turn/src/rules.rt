@@ -1,8 +1,9 @@
 // The rule of a turn's table, and what each of its steps tells. These types are for the proofs alone.
-ghost use Rattle.tm_turn.specs.Steps.{Tries, Notes, Gives};
+ghost use Rattle.tm_turn.specs.SeatViews.{newcomer, splitting, note_of, absorbing, meeting, spent};
+ghost use Rattle.tm_turn.specs.Steps.{Tries, Notes, Gives, Looks, Learns};
 
 use crate::views::SeatView;
-use atomic_table::{Play, TableRule};
+use atomic_table::{Join, Play, Split, TableRule};
 use std::marker::{Brand, PhantomData};
 use std::snapshot::Snapshot;
 use tm_base::Kept;
@@ -54,4 +55,67 @@ pub struct GiveTurn;
 
 impl<V> Play<Option<V>, SeatView> for GiveTurn {
     ghost then = { λ _ m _ after. Gives m after };
+}
+
+/// A load of `holder` before a split.
+pub struct LookBefore;
+
+impl<V> Play<Option<V>, SeatView> for LookBefore {
+    ghost then = { λ _ m _ after. Looks m after };
+}
+
+/// A load of `holder` after a join.
+pub struct LearnAfter;
+
+impl<V> Play<Option<V>, SeatView> for LearnAfter {
+    ghost then = { λ _ m _ after. Learns m after };
+}
+
+/// The number that a `split` will give, for the proof alone. A call at `Brand` picks it.
+pub trait Numbered {
+    ghost use Rattle.std.specs.Prelude.{ℕ};
+
+    ghost number: { ℕ };
+}
+
+impl Numbered for Brand {
+    ghost number = { 0 };
+}
+
+/// A new pass is split from pass 0.
+pub struct SplitPass<N> {
+    marker: PhantomData<N>,
+}
+
+impl<N: Numbered> Split<SeatView> for SplitPass<N> {
+    ghost left = { λ v. splitting v N.number };
+
+    ghost right = { λ v. newcomer v.label N.number v.seen };
+}
+
+/// What a pass has seen is split off as a note.
+pub struct SplitNote;
+
+impl Split<SeatView> for SplitNote {
+    ghost left = { λ v. v };
+
+    ghost right = { λ v. note_of v };
+}
+
+/// A pass is joined to pass 0.
+pub struct JoinPass;
+
+impl Join<SeatView> for JoinPass {
+    ghost both = { λ v w. absorbing v w };
+
+    ghost spent = { spent };
+}
+
+/// A note is joined to a pass.
+pub struct JoinNote;
+
+impl Join<SeatView> for JoinNote {
+    ghost both = { λ v w. meeting v w };
+
+    ghost spent = { spent };
 }

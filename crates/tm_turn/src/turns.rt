@@ -15,7 +15,7 @@ use std::thread::yield_now;
 use tm_base::{Entry, Kept, NoMemory};
 
 // The word that names the holder: 0, or the number of a pass plus 1.
-const HOLDER: usize = 0;
+pub(crate) const HOLDER: usize = 0;
 
 // The word that counts the events of the history.
 const COUNT: usize = 1;
