@@ -1,5 +1,6 @@
 ghost use Rattle.std.specs.Prelude.{◌≡◌};
 ghost use types.Logic.{sem};
+ghost use Rattle.std.specs.Borrow.{Lends};
 ghost use Rattle.tm_turn.specs.contracts.held.Held.{the_row};
 
 use crate::passes::Pass;
@@ -11,6 +12,16 @@ pub struct Held<V> {
     pub value: V,
     /// The pass that took it, as it was then.
     pub(crate) from: Snapshot<Pass<V>>,
+}
+
+impl<V> Held<V> {
+    /// The value, to be worked on.
+    pub fn value(&mut self) -> &mut V
+        ensures* writes_back { sem 𝓛 (Lends (the_row V.row) V.row self.entry result (λ value. record self.entry.now { value = value })) }
+        ensures value { result.now ≡ self.old.value }
+    {
+        &mut self.value
+    }
 }
 
 /// Another pass holds the turn.

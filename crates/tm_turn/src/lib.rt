@@ -5,6 +5,8 @@ mod held;
 mod joins;
 mod passes;
 mod rules;
+#[cfg(test)]
+mod tests;
 mod turns;
 mod views;
 
