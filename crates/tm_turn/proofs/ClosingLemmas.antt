@@ -38,12 +38,12 @@ module _ {V : Type 0} (entries : V → List Entry) (label : V → Label) (key : 
         absurd
         (dite (ℕ_discrete u.number 0)
         (λ none.
-            let same : u ≡ v = some-injective u v (sym held.1 ∙ ap (get_elem? s.views) (r.apart j id u v held.1 at held.2.lives lives (none ∙ sym root)) ∙ at) in
-            clash v.holds (ap (λ (x : SeatView). x.holds) (sym same) ∙ held.2.holds) idle)
+        let same : u ≡ v = some-injective u v (sym held.1 ∙ ap (get_elem? s.views) (r.apart j id u v held.1 at held.2.lives lives (none ∙ sym root)) ∙ at) in
+        clash v.holds (ap (λ (x : SeatView). x.holds) (sym same) ∙ held.2.holds) idle)
         (λ other.
-            let given = live.other other in
-            let gave : has u.number v.given ≡ true = ap (has u.number) is.given_all ∙ given.in_given in
-            clash (has u.number r.absorbed) (ap (has u.number) (sym is.absorbed_all) ∙ back u.number gave) given.still_out))
+        let given = live.other other in
+        let gave : has u.number v.given ≡ true = ap (has u.number) is.given_all ∙ given.in_given in
+        clash (has u.number r.absorbed) (ap (has u.number) (sym is.absorbed_all) ∙ back u.number gave) given.still_out))
 
     -- a number that wasn't absorbed wasn't given
     nothing_of : (n : ℕ) → n ≢ 0 → has n v.absorbed ≡ false → of_thread r.history n ≡ []
@@ -63,10 +63,10 @@ module _ {V : Type 0} (entries : V → List Entry) (label : V → Label) (key : 
         dite (ℕ_discrete n 0)
         (λ none. subst (λ (k : ℕ). of_thread r.history k ≡ of_thread v.seen k) (root ∙ sym none) live.mine)
         (λ other.
-            ⊎_elim
-            (λ (known : has n v.absorbed ≡ true). is.theirs n (ap (has n) (sym is.absorbed_all) ∙ known))
-            (λ (out : has n v.absorbed ≡ false). let none = nothing_of n other out in none ∙ sym (none_before r.history v.seen n (seated.begins knows) none))
-            (true_or_false (has n v.absorbed)))
+        ⊎_elim
+        (λ (known : has n v.absorbed ≡ true). is.theirs n (ap (has n) (sym is.absorbed_all) ∙ known))
+        (λ (out : has n v.absorbed ≡ false). let none = nothing_of n other out in none ∙ sym (none_before r.history v.seen n (seated.begins knows) none))
+        (true_or_false (has n v.absorbed)))
 
     closes_at : (xs : List (Option V)) (found : Option V) → ((k : ℕ) (y : Option V) → get_elem? s.homes k ≡ some (some y) → get_elem? xs k ≡ some y) → get_elem? xs 0 ≡ some found → Closes v found
     closes_at xs found home is =

@@ -60,30 +60,30 @@ module _ {V : Type 0} (entries : V → List Entry) (label : V → Label) (key : 
             each = λ j u e.
                 ⊎_elim
                 (λ (there : get_elem? views j ≡ some u).
-                    ⊎_elim
-                    (λ (here : (j ≡ id) × (left ≡ u)). subst (λ (y : ℕ × SeatView). IsSeated key r.history given r.absorbed r.holder y.0 y.1) (λ k. (sym here.0 k, here.1 k)) c.seated)
-                    (λ (else : (j ≢ id) × (get_elem? s.views j ≡ some u)). c.others j u else.0 else.1)
-                    (at_set s.views id j left u there))
+                ⊎_elim
+                (λ (here : (j ≡ id) × (left ≡ u)). subst (λ (y : ℕ × SeatView). IsSeated key r.history given r.absorbed r.holder y.0 y.1) (λ k. (sym here.0 k, here.1 k)) c.seated)
+                (λ (else : (j ≢ id) × (get_elem? s.views j ≡ some u)). c.others j u else.0 else.1)
+                (at_set s.views id j left u there))
                 (λ (new : (j ≡ length views) × (right ≡ u)). subst (IsSeated key r.history given r.absorbed r.holder j) new.1 (c.fresh j))
                 (at_end views right u j e);
             apart = λ i j u w there here l m same.
                 ⊎_elim
                 (λ (old_u : get_elem? views i ≡ some u).
-                    let one = old i u old_u in
-                    ⊎_elim
-                    (λ (old_w : get_elem? views j ≡ some w).
-                        let two = old j w old_w in
-                        r.apart i j one.0 two.0 one.1 two.1 (one.3 l) (two.3 m) (one.2 ∙ same ∙ sym two.2))
-                    (λ (new_w : (j ≡ length views) × (right ≡ w)).
-                        absurd (c.apart (ap (λ (x : SeatView). x.lives) new_w.1 ∙ m) i one.0 one.1 (one.3 l) (one.2 ∙ same ∙ ap (λ (x : SeatView). x.number) (sym new_w.1))))
-                    (at_end views right w j here))
+                let one = old i u old_u in
+                ⊎_elim
+                (λ (old_w : get_elem? views j ≡ some w).
+                let two = old j w old_w in
+                r.apart i j one.0 two.0 one.1 two.1 (one.3 l) (two.3 m) (one.2 ∙ same ∙ sym two.2))
+                (λ (new_w : (j ≡ length views) × (right ≡ w)).
+                absurd (c.apart (ap (λ (x : SeatView). x.lives) new_w.1 ∙ m) i one.0 one.1 (one.3 l) (one.2 ∙ same ∙ ap (λ (x : SeatView). x.number) (sym new_w.1))))
+                (at_end views right w j here))
                 (λ (new_u : (i ≡ length views) × (right ≡ u)).
-                    ⊎_elim
-                    (λ (old_w : get_elem? views j ≡ some w).
-                        let two = old j w old_w in
-                        absurd (c.apart (ap (λ (x : SeatView). x.lives) new_u.1 ∙ l) j two.0 two.1 (two.3 m) (two.2 ∙ sym same ∙ ap (λ (x : SeatView). x.number) (sym new_u.1))))
-                    (λ (new_w : (j ≡ length views) × (right ≡ w)). new_u.0 ∙ sym new_w.0)
-                    (at_end views right w j here))
+                ⊎_elim
+                (λ (old_w : get_elem? views j ≡ some w).
+                let two = old j w old_w in
+                absurd (c.apart (ap (λ (x : SeatView). x.lives) new_u.1 ∙ l) j two.0 two.1 (two.3 m) (two.2 ∙ sym same ∙ ap (λ (x : SeatView). x.number) (sym new_u.1))))
+                (λ (new_w : (j ≡ length views) × (right ≡ w)). new_u.0 ∙ sym new_w.0)
+                (at_end views right w j here))
                 (at_end views right u i there);
             given_first = c.given_first;
             strangers = c.strangers;
@@ -135,10 +135,10 @@ module _ {V : Type 0} (entries : V → List Entry) (label : V → Label) (key : 
                 ⊎_elim
                 (λ (gone : (j ≡ other) × (spent ≡ u)). subst (λ (y : ℕ × SeatView). IsSeated key r.history r.given absorbed r.holder y.0 y.1) (λ k. (sym gone.0 k, gone.1 k)) seated_spent)
                 (λ (still : (j ≢ other) × (get_elem? between j ≡ some u)).
-                    ⊎_elim
-                    (λ (here : (j ≡ id) × (both ≡ u)). subst (λ (y : ℕ × SeatView). IsSeated key r.history r.given absorbed r.holder y.0 y.1) (λ k. (sym here.0 k, here.1 k)) c.seated)
-                    (λ (else : (j ≢ id) × (get_elem? s.views j ≡ some u)). c.others j u else.0 still.0 else.1)
-                    (at_set s.views id j both u still.1))
+                ⊎_elim
+                (λ (here : (j ≡ id) × (both ≡ u)). subst (λ (y : ℕ × SeatView). IsSeated key r.history r.given absorbed r.holder y.0 y.1) (λ k. (sym here.0 k, here.1 k)) c.seated)
+                (λ (else : (j ≢ id) × (get_elem? s.views j ≡ some u)). c.others j u else.0 still.0 else.1)
+                (at_set s.views id j both u still.1))
                 (at_set between other j spent u e);
             apart = λ i j u x here_i here_j l m same.
                 let one = was_living c i u here_i l in
@@ -279,8 +279,8 @@ module _ {V : Type 0} (entries : V → List Entry) (label : V → Label) (key : 
                 ⊎_elim
                 (λ (same : w.number ≡ m). absurd (unlike (ap Some same)))
                 (λ (else : (w.number ≢ m) × (has m v.absorbed ≡ true)).
-                    let known : has m r.absorbed ≡ true = ap (has m) (sym is.absorbed_all) ∙ else.1 in
-                    sym (before m known) ∙ is.theirs m known)
+                let known : has m r.absorbed ≡ true = ap (has m) (sym is.absorbed_all) ∙ else.1 in
+                sym (before m known) ∙ is.theirs m known)
                 (has-cases w.number m v.absorbed h);
             theirs = λ m joined. let same : w.number ≡ m = cc in subst (λ (k : ℕ). of_thread l k ≡ of_thread w.seen k) same (sym theirs ∙ live_w.mine);
             once = λ m earlier joined absorbed.
@@ -356,9 +356,9 @@ module _ {V : Type 0} (entries : V → List Entry) (label : V → Label) (key : 
             before = λ m h unlike.
                 dite (ℕ_discrete v.number 0)
                 (λ none.
-                    let is = live.root none in
-                    let known : has m r.absorbed ≡ true = ap (has m) (sym is.absorbed_all) ∙ h in
-                    sym (squeezed r.history l v.seen m long.0 long.1 (is.theirs m known)) ∙ is.theirs m known)
+                let is = live.root none in
+                let known : has m r.absorbed ≡ true = ap (has m) (sym is.absorbed_all) ∙ h in
+                sym (squeezed r.history l v.seen m long.0 long.1 (is.theirs m known)) ∙ is.theirs m known)
                 (λ k. absurd (clash false (ap (has m) (sym (live.other k).absorbs_none) ∙ h) refl));
             theirs = λ m joined. absurd (cc joined);
             once = λ m earlier joined absorbed. absurd (cc joined);
@@ -377,24 +377,23 @@ module _ {V : Type 0} (entries : V → List Entry) (label : V → Label) (key : 
         let is = live.root root in
         let begins = seated.begins knows in
         let n : ℕ = slice_index s.words 0 in
-        let words : List ℕ = set s.words 0 n in
-        (
+        let words : List ℕ = set s.words 0 n in (
           v,
           keeps,
           tt,
           moved entries label key s r id v at lives knows v.seen v.holds v.turns v.misses v.missed v.keeps v.first v.second v.joined r.history r.holder
-          (record {
-            grows = StartsWith-self r.history;
-            others = λ m _. refl;
-            begins = begins;
-            mine = live.mine;
-            theirs = λ _ m h. is.theirs m h;
-            holds_it = λ h. absurd (clash v.holds h idle);
-            leaves_it = λ j _ e. e;
-            keeps_none = still;
-          })
-          words s.homes (length-set s.words 0 n ∙ r.wide) (second_kept s.words n ∙ r.count)
-          (still_held entries label key s.words words s.homes s.views r.history id v v r.holder at idle (set_first s.words n r.wide) r.turn),
+              (record {
+                grows = StartsWith-self r.history;
+                others = λ m _. refl;
+                begins = begins;
+                mine = live.mine;
+                theirs = λ _ m h. is.theirs m h;
+                holds_it = λ h. absurd (clash v.holds h idle);
+                leaves_it = λ j _ e. e;
+                keeps_none = still;
+              })
+              words s.homes (length-set s.words 0 n ∙ r.wide) (second_kept s.words n ∙ r.count)
+              (still_held entries label key s.words words s.homes s.views r.history id v v r.holder at idle (set_first s.words n r.wide) r.turn),
           (refl, λ m k h. none_before r.history v.seen m begins (r.strangers m k (ap (has m) (sym is.given_all) ∙ h))),
         )
 
@@ -405,23 +404,22 @@ module _ {V : Type 0} (entries : V → List Entry) (label : V → Label) (key : 
         let live = seated.live lives in
         let w : SeatView = learning v in
         let n : ℕ = slice_index s.words 0 in
-        let words : List ℕ = set s.words 0 n in
-        (
+        let words : List ℕ = set s.words 0 n in (
           w,
           keeps,
           tt,
           moved entries label key s r id v at lives knows v.seen v.holds v.turns v.misses v.missed false [] [] None r.history r.holder
-          (record {
-            grows = StartsWith-self r.history;
-            others = λ m _. refl;
-            begins = seated.begins knows;
-            mine = live.mine;
-            theirs = λ none m h. (live.root none).theirs m h;
-            holds_it = λ h. absurd (clash v.holds h idle);
-            leaves_it = λ j _ e. e;
-            keeps_none = refl;
-          })
-          words s.homes (length-set s.words 0 n ∙ r.wide) (second_kept s.words n ∙ r.count)
-          (still_held entries label key s.words words s.homes s.views r.history id v w r.holder at idle (set_first s.words n r.wide) r.turn),
+              (record {
+                grows = StartsWith-self r.history;
+                others = λ m _. refl;
+                begins = seated.begins knows;
+                mine = live.mine;
+                theirs = λ none m h. (live.root none).theirs m h;
+                holds_it = λ h. absurd (clash v.holds h idle);
+                leaves_it = λ j _ e. e;
+                keeps_none = refl;
+              })
+              words s.homes (length-set s.words 0 n ∙ r.wide) (second_kept s.words n ∙ r.count)
+              (still_held entries label key s.words words s.homes s.views r.history id v w r.holder at idle (set_first s.words n r.wide) r.turn),
           (seated.joined keeps_lists, refl, refl),
         )

@@ -109,10 +109,10 @@ nothing_more (e ∷ rest) h =
 pub all_of_it : (history seen : List Entry) → StartsWith history seen → ((n : ℕ) → of_thread history n ≡ of_thread seen n) → history ≡ seen
 all_of_it history seen p same =
     let more : (n : ℕ) → of_thread p.rest n ≡ [] =
-        λ n.
-            let upper : of_thread history n ≡ of_thread seen n ++ of_thread p.rest n = ap (λ (es : List Entry). of_thread es n) p.whole ∙ filter-append (λ (f : Entry). f.thread == n) seen p.rest in
-            let a : length (of_thread seen n) ≡ length (of_thread seen n) + length (of_thread p.rest n) = ap length (sym (same n) ∙ upper) ∙ length-append (of_thread seen n) (of_thread p.rest n) in
-            empty (of_thread p.rest n) (omega arith) in
+    λ n.
+    let upper : of_thread history n ≡ of_thread seen n ++ of_thread p.rest n = ap (λ (es : List Entry). of_thread es n) p.whole ∙ filter-append (λ (f : Entry). f.thread == n) seen p.rest in
+    let a : length (of_thread seen n) ≡ length (of_thread seen n) + length (of_thread p.rest n) = ap length (sym (same n) ∙ upper) ∙ length-append (of_thread seen n) (of_thread p.rest n) in
+    empty (of_thread p.rest n) (omega arith) in
     p.whole ∙ ap (λ (es : List Entry). seen ++ es) (nothing_more p.rest more) ∙ append-nil seen
 
 prefixes : (a b r s : List Entry) → a ++ r ≡ b ++ s → length a ≤ length b → StartsWith b a
@@ -132,5 +132,5 @@ longer_begins history a b p q =
     dite (dec_le (length b) (length a))
     (λ le. subst Both (sym (ap (λ (c : Bool). cond c b a) (le-ltb (length a) (length b) le))) (p, StartsWith-self a, prefixes b a q.rest p.rest (sym q.whole ∙ p.whole) le))
     (λ more.
-        let le : length a ≤ length b = omega arith in
-        subst Both (sym (ap (λ (c : Bool). cond c b a) (lt-ltb (length a) (length b) (omega arith)))) (q, prefixes a b p.rest q.rest (sym p.whole ∙ q.whole) le, StartsWith-self b))
+    let le : length a ≤ length b = omega arith in
+    subst Both (sym (ap (λ (c : Bool). cond c b a) (lt-ltb (length a) (length b) (omega arith)))) (q, prefixes a b p.rest q.rest (sym p.whole ∙ q.whole) le, StartsWith-self b))

@@ -76,24 +76,23 @@ module _ {V : Type 0} (entries : V → List Entry) (label : V → Label) (key : 
             let live = seated.live lives in
             let w : SeatView = taking v r.history in
             let words : List ℕ = set s.words 0 word in
-            let same : r.history ≡ entries home.value = sym home.list in
-            (
+            let same : r.history ≡ entries home.value = sym home.list in (
               w,
               takes 0 (Some home.value),
               home.home,
               moved entries label key s r id v at lives knows r.history true (suc v.turns) v.misses v.missed v.keeps v.first v.second v.joined r.history (Some id)
-              (record {
-                grows = StartsWith-self r.history;
-                others = λ n _. refl;
-                begins = StartsWith-self r.history;
-                mine = refl;
-                theirs = λ _ n _. refl;
-                holds_it = λ _. refl;
-                leaves_it = λ j _ e. absurd (cc (free.0, e));
-                keeps_none = still;
-              })
-              words (set s.homes 0 none) (length-set s.words 0 word ∙ r.wide) (second_kept s.words word ∙ r.count)
-              (w, set_here s.views id w (within s.views id v at), record { holds = refl; knows = knows; lives = lives; whole = refl; named = set_first s.words word r.wide ∙ is_word }),
+                  (record {
+                    grows = StartsWith-self r.history;
+                    others = λ n _. refl;
+                    begins = StartsWith-self r.history;
+                    mine = refl;
+                    theirs = λ _ n _. refl;
+                    holds_it = λ _. refl;
+                    leaves_it = λ j _ e. absurd (cc (free.0, e));
+                    keeps_none = still;
+                  })
+                  words (set s.homes 0 none) (length-set s.words 0 word ∙ r.wide) (second_kept s.words word ∙ r.count)
+                  (w, set_here s.views id w (within s.views id v at), record { holds = refl; knows = knows; lives = lives; whole = refl; named = set_first s.words word r.wide ∙ is_word }),
               (
                 (λ _. record {
                   value = home.value;
@@ -120,24 +119,23 @@ module _ {V : Type 0} (entries : V → List Entry) (label : V → Label) (key : 
             let words : List ℕ = set s.words 0 n in
             let same_word : slice_index words 0 ≡ n = set_first s.words n r.wide in
             let is_it : u.number ≡ v.number → u ≡ v =
-                λ e. some-injective u v (sym taken.2 ∙ ap (get_elem? s.views) (r.apart taken.0 id u v taken.2 at taken.3.lives lives e) ∙ at) in
-            (
+            λ e. some-injective u v (sym taken.2 ∙ ap (get_elem? s.views) (r.apart taken.0 id u v taken.2 at taken.3.lives lives e) ∙ at) in (
               w,
               keeps,
               tt,
               moved entries label key s r id v at lives knows v.seen v.holds v.turns (suc v.misses) n v.keeps v.first v.second v.joined r.history r.holder
-              (record {
-                grows = StartsWith-self r.history;
-                others = λ n _. refl;
-                begins = seated.begins knows;
-                mine = live.mine;
-                theirs = λ none n h. (live.root none).theirs n h;
-                holds_it = λ h. absurd (clash v.holds h idle);
-                leaves_it = λ j _ e. e;
-                keeps_none = still;
-              })
-              words s.homes (length-set s.words 0 n ∙ r.wide) (second_kept s.words n ∙ r.count)
-              (still_held entries label key s.words words s.homes s.views r.history id v w r.holder at idle same_word r.turn),
+                  (record {
+                    grows = StartsWith-self r.history;
+                    others = λ n _. refl;
+                    begins = seated.begins knows;
+                    mine = live.mine;
+                    theirs = λ none n h. (live.root none).theirs n h;
+                    holds_it = λ h. absurd (clash v.holds h idle);
+                    leaves_it = λ j _ e. e;
+                    keeps_none = still;
+                  })
+                  words s.homes (length-set s.words 0 n ∙ r.wide) (second_kept s.words n ∙ r.count)
+                  (still_held entries label key s.words words s.homes s.views r.history id v w r.holder at idle same_word r.turn),
               (
                 λ unheld. absurd (some_word unheld),
                 λ _. record {
@@ -169,25 +167,24 @@ module _ {V : Type 0} (entries : V → List Entry) (label : V → Label) (key : 
           let whole : v.seen ≡ r.history = turn.whole in
           let counted : slice_index s.words 1 ≡ length v.seen = r.count ∙ ap length (sym whole) in
           let others : (k : ℕ) → k ≢ v.number → of_thread history k ≡ of_thread r.history k =
-              λ k other. of_thread-other v.seen e k (λ same. other (sym same ∙ own)) ∙ ap (λ (l : List Entry). of_thread l k) whole in
-          (
+          λ k other. of_thread-other v.seen e k (λ same. other (sym same ∙ own)) ∙ ap (λ (l : List Entry). of_thread l k) whole in (
             w,
             keeps,
             tt,
             moved entries label key s r id v at lives knows history v.holds v.turns v.misses v.missed v.keeps v.first v.second v.joined history (Some id)
-            (record {
-              grows = subst (StartsWith history) whole (StartsWith-snoc v.seen e);
-              others = others;
-              begins = StartsWith-self history;
-              mine = refl;
-              theirs = λ _ n _. refl;
-              holds_it = λ _. refl;
-              leaves_it = λ j _ e. sym (seated.holds holds) ∙ e;
-              keeps_none = still;
-            })
-            words s.homes (length-set s.words 1 n ∙ r.wide)
-            (set_second s.words n r.wide ∙ omega (arith, length-append v.seen (e ∷ [])))
-            (w, set_here s.views id w (within s.views id v at), record { holds = holds; knows = knows; lives = lives; whole = refl; named = first_kept s.words n ∙ turn.named }),
+                (record {
+                  grows = subst (StartsWith history) whole (StartsWith-snoc v.seen e);
+                  others = others;
+                  begins = StartsWith-self history;
+                  mine = refl;
+                  theirs = λ _ n _. refl;
+                  holds_it = λ _. refl;
+                  leaves_it = λ j _ e. sym (seated.holds holds) ∙ e;
+                  keeps_none = still;
+                })
+                words s.homes (length-set s.words 1 n ∙ r.wide)
+                (set_second s.words n r.wide ∙ omega (arith, length-append v.seen (e ∷ [])))
+                (w, set_here s.views id w (within s.views id v at), record { holds = holds; knows = knows; lives = lives; whole = refl; named = first_kept s.words n ∙ turn.named }),
             (refl, refl),
           )
 
@@ -198,24 +195,23 @@ module _ {V : Type 0} (entries : V → List Entry) (label : V → Label) (key : 
           let seated = r.each id v at in
           let live = seated.live lives in
           let w : SeatView = giving v in
-          let words : List ℕ = set s.words 0 0 in
-          (
+          let words : List ℕ = set s.words 0 0 in (
             w,
             gives,
             tt,
             moved entries label key s r id v at lives knows v.seen false v.turns v.misses v.missed v.keeps v.first v.second v.joined r.history None
-            (record {
-              grows = StartsWith-self r.history;
-              others = λ n _. refl;
-              begins = seated.begins knows;
-              mine = live.mine;
-              theirs = λ none n h. (live.root none).theirs n h;
-              holds_it = λ h. absurd (clash false h refl);
-              leaves_it = λ j other e. let mine = seated.holds holds in absurd (other (cc (mine, e)));
-              keeps_none = still;
-            })
-            words (set s.homes 0 (some (Some x))) (length-set s.words 0 0 ∙ r.wide) (second_kept s.words 0 ∙ r.count)
-            (set_first s.words 0 r.wide, record { value = x; home = set_here s.homes 0 (some (Some x)) (omega arith); list = list ∙ turn.whole; same_label = same ∙ seated.label knows }),
+                (record {
+                  grows = StartsWith-self r.history;
+                  others = λ n _. refl;
+                  begins = seated.begins knows;
+                  mine = live.mine;
+                  theirs = λ none n h. (live.root none).theirs n h;
+                  holds_it = λ h. absurd (clash false h refl);
+                  leaves_it = λ j other e. let mine = seated.holds holds in absurd (other (cc (mine, e)));
+                  keeps_none = still;
+                })
+                words (set s.homes 0 (some (Some x))) (length-set s.words 0 0 ∙ r.wide) (second_kept s.words 0 ∙ r.count)
+                (set_first s.words 0 r.wide, record { value = x; home = set_here s.homes 0 (some (Some x)) (omega arith); list = list ∙ turn.whole; same_label = same ∙ seated.label knows }),
             (refl, refl),
           )
 
@@ -227,18 +223,18 @@ module _ {V : Type 0} (entries : V → List Entry) (label : V → Label) (key : 
   opens value empty same =
       let v : SeatView = newcomer key 0 [] in
       let seated : IsSeated key [] [] [] None 0 v =
-          record {
-            label = λ _. refl;
-            begins = λ _. StartsWith-self [];
-            live = λ _. record {
-              small = omega arith;
-              mine = refl;
-              root = λ _. record { given_all = refl; absorbed_all = refl; theirs = λ n h. refl };
-              other = λ other. absurd (other refl);
-            };
-            holds = λ h. absurd (clash false h refl);
-            joined = λ h. absurd (clash false h refl);
-          } in
+      record {
+        label = λ _. refl;
+        begins = λ _. StartsWith-self [];
+        live = λ _. record {
+          small = omega arith;
+          mine = refl;
+          root = λ _. record { given_all = refl; absorbed_all = refl; theirs = λ n h. refl };
+          other = λ other. absurd (other refl);
+        };
+        holds = λ h. absurd (clash false h refl);
+        joined = λ h. absurd (clash false h refl);
+      } in
       record {
         history = [];
         given = [];

@@ -5,7 +5,7 @@ ghost use Rattle.tm_turn.specs.Passes.{IsPassOf, mine};
 
 use crate::passes::Pass;
 use crate::rules::{JoinNote, JoinPass, LearnAfter, LookBefore, Numbered, SplitNote, SplitPass};
-use crate::turns::{HOLDER, Turn};
+use crate::turns::{HOLDER, Turn, VALUE};
 use std::marker::Brand;
 use tm_base::Kept;
 
@@ -97,7 +97,7 @@ impl<V: Kept> Turn<V> {
         let Turn { table } = self;
         let Pass { number: _, seat } = pass;
         let mut closed = table.close_with(seat);
-        let value = closed.take(0);
+        let value = closed.take(VALUE);
         closed.free();
         value.unwrap()
     }

@@ -47,16 +47,17 @@ fn add<R: Wait>(rt: &R, turn: &Turn<Log>, pass: &mut Pass<Log>, place: u64) -> b
     ensures { pass.new ≡ record pass.old { seen = pass.new.seen; turns = pass.new.turns; misses = pass.new.misses; missed = pass.new.missed } }
 {
     let mut held = turn.take(rt, pass);
+    let log = held.value();
     let entry = Entry {
         thread: pass.number(),
         place,
-        object: held.value.object,
+        object: log.object,
         at: place,
         stamp: place,
         op: Op::Lock,
         reply: Reply::Ok,
     };
-    let added = held.value.entries.push(entry).is_ok();
+    let added = log.entries.push(entry).is_ok();
     if added {
         turn.note(pass, &mut held, &entry);
     }
@@ -77,7 +78,12 @@ fn add_all<R: Wait>(rt: &R, turn: &Turn<Log>, mut pass: Pass<Log>) -> Pass<Log>
 }
 
 /// Both passes add their events, each in a thread of its own.
-fn add_both<R: Threads + Wait + Sync>(rt: &R, turn: &Turn<Log>, first: Pass<Log>, second: Pass<Log>) -> (Pass<Log>, Pass<Log>)
+fn add_both<R: Threads + Wait + Sync>(
+    rt: &R,
+    turn: &Turn<Log>,
+    first: Pass<Log>,
+    second: Pass<Log>,
+) -> (Pass<Log>, Pass<Log>)
     requires first { IsPassOf turn.now first × (first.holds ≡ false) }
     requires second { IsPassOf turn.now second × (second.holds ≡ false) }
     ensures first { result.0 ≡ record first { seen = result.0.seen; turns = result.0.turns; misses = result.0.misses; missed = result.0.missed } }

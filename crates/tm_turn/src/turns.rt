@@ -14,11 +14,14 @@ use std::sync::Wait;
 use std::thread::yield_now;
 use tm_base::{Entry, Kept, NoMemory};
 
-// The word that names the holder: 0, or the number of a pass plus 1.
+/// The word that names the holder: 0, or the number of a pass plus 1.
 pub(crate) const HOLDER: usize = 0;
 
-// The word that counts the events of the history.
+/// The word that counts the events of the history.
 const COUNT: usize = 1;
+
+/// The slot that has the value, or nothing while a pass holds the turn.
+pub(crate) const VALUE: usize = 0;
 
 /// The turn of a value that threads share. One pass at a time holds it, and with it the value.
 /// Contracts see which turn it is, and the label of its value, which stays for good.
@@ -76,21 +79,15 @@ impl<V: Kept> Turn<V> {
         ensures busy { IfErr result (λ busy. pass.new ≡ record pass.old { misses = suc pass.old.misses; missed = suc busy.holder }) }
         ensures other { IfErr result (λ busy. busy.holder ≢ pass.old.number) }
     {
+        let shared = &self.table.shared;
         let word = u64::from(pass.number) + 1;
-        let found = self
-            .table
-            .shared
-            .compare_exchange::<TryTurn>(&mut pass.seat, HOLDER, 0, word);
+        let found = shared.compare_exchange::<TryTurn>(&mut pass.seat, HOLDER, 0, word);
         if found != 0 {
             return Err(Busy {
                 holder: (found - 1) as u32,
             });
         }
-        let value = self
-            .table
-            .shared
-            .exchange(&mut pass.seat, 0, None)
-            .unwrap();
+        let value = shared.exchange(&mut pass.seat, VALUE, None).unwrap();
         let from = Snapshot::of(pass);
         Ok(Held { value, from })
     }
@@ -141,9 +138,8 @@ impl<V: Kept> Turn<V> {
         requires short { suc (length pass.old.seen) < 2 ^ 64 }
         ensures { pass.new ≡ record pass.old { seen = pass.old.seen ++ E.entry ∷ [] } }
     {
-        self.table
-            .shared
-            .fetch_add::<NoteEntry<E>>(&mut pass.seat, COUNT, 1);
+        let shared = &self.table.shared;
+        shared.fetch_add::<NoteEntry<E>>(&mut pass.seat, COUNT, 1);
     }
 
     /// Gives the turn back, with the value.
@@ -155,15 +151,11 @@ impl<V: Kept> Turn<V> {
         ensures { pass.new ≡ record pass.old { holds = false } }
     {
         let Held { value, from: _ } = held;
-        match self
-            .table
-            .shared
-            .exchange(&mut pass.seat, 0, Some(value)) {
+        let shared = &self.table.shared;
+        match shared.exchange(&mut pass.seat, VALUE, Some(value)) {
             None => {}
             Some(_) => unreachable!(),
         }
-        self.table
-            .shared
-            .store::<GiveTurn>(&mut pass.seat, HOLDER, 0);
+        shared.store::<GiveTurn>(&mut pass.seat, HOLDER, 0);
     }
 }

@@ -15,14 +15,13 @@ join_seat-requires g c =
     let was_other = c.other.view_is in
     let wide = c.self.invariant.0 in
     let idle = ap (λ p. p.holds) was ∙ c.requires.idle in
-    let idle_other = ap (λ p. p.holds) was_other ∙ c.requires.idle_other in
-    (
+    let idle_other = ap (λ p. p.holds) was_other ∙ c.requires.idle_other in (
       ap (λ p. p.turn) was ∙ c.requires.of.0 ∙ its,
       ap (λ p. p.turn) was_other ∙ c.requires.of_other.0 ∙ its,
       other.4 idle_other,
       omega arith,
       absorbs g.V.Kept.entries g.V.Kept.label (g.V.Kept.label table.key.value) seat.id seat_other.id seat.me.0 seat_other.me.0
-      pass.1 pass.2 idle (ap (λ p. p.number) was ∙ c.requires.root) other.1 other.2 idle_other,
+          pass.1 pass.2 idle (ap (λ p. p.number) was ∙ c.requires.root) other.1 other.2 idle_other,
     )
 
 pub load-requires : goal.load-requires
@@ -32,11 +31,10 @@ load-requires g c =
     let pass = c.pass.invariant in
     let was = c.pass.view_is in
     let wide = c.self.invariant.0 in
-    let me = c.join_seat.ensures.2 in
-    (
+    let me = c.join_seat.ensures.2 in (
       c.join_seat.ensures.0 ∙ ap (λ p. p.turn) was ∙ c.requires.of.0 ∙ ap (λ t. t.turn) (sym c.self.view_is),
       omega arith,
       learns g.V.Kept.entries g.V.Kept.label (g.V.Kept.label table.key.value) table.table_id.slots seat.id seat.me.0
-      (ap (λ m. m.0.lives) me ∙ pass.1) (ap (λ m. m.0.knows) me ∙ pass.2) (ap (λ m. m.0.holds) me ∙ ap (λ p. p.holds) was ∙ c.requires.idle)
-      seat.me.1 (ap (λ m. m.0.keeps) me),
+          (ap (λ m. m.0.lives) me ∙ pass.1) (ap (λ m. m.0.knows) me ∙ pass.2) (ap (λ m. m.0.holds) me ∙ ap (λ p. p.holds) was ∙ c.requires.idle)
+          seat.me.1 (ap (λ m. m.0.keeps) me),
     )

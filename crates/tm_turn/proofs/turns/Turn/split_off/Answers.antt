@@ -10,12 +10,11 @@ load-requires g c =
     let table = c.self.inside.table.shared in
     let pass = c.pass.invariant in
     let was = c.pass.view_is in
-    let wide = c.self.invariant.0 in
-    (
+    let wide = c.self.invariant.0 in (
       ap (λ p. p.turn) was ∙ c.requires.of.0 ∙ ap (λ t. t.turn) (sym c.self.view_is),
       omega arith,
       looks g.V.Kept.entries g.V.Kept.label (g.V.Kept.label table.key.value) table.table_id.slots seat.id seat.me.0 pass.1 pass.2
-      (ap (λ p. p.holds) was ∙ c.requires.idle) seat.me.1 pass.3 (ap (λ p. p.number) was ∙ c.requires.root),
+          (ap (λ p. p.holds) was ∙ c.requires.idle) seat.me.1 pass.3 (ap (λ p. p.number) was ∙ c.requires.root),
     )
 
 pub split_seat-seat-requires : goal.split_seat-seat-requires
@@ -27,12 +26,11 @@ split_seat-seat-requires g c =
     let me = c.load.ensures.2.0 in
     let n = g.N.Numbered.number in
     let some_number : 0 < n = omega (arith, c.requires.same, c.requires.number) in
-    let small : n < 2 ^ 32 = omega (arith, c.requires.same, c.ranges.number.fits) in
-    (
+    let small : n < 2 ^ 32 = omega (arith, c.requires.same, c.ranges.number.fits) in (
       c.load.ensures.0 ∙ ap (λ p. p.turn) was ∙ c.requires.of.0 ∙ ap (λ t. t.turn) (sym c.self.view_is),
       omega arith,
       splits g.V.Kept.entries g.V.Kept.label (g.V.Kept.label table.key.value) c.load.new.seat.id n c.load.new.seat.me.0
-      (ap (λ m. m.0.lives) me ∙ pass.1) (ap (λ m. m.0.knows) me ∙ pass.2) (ap (λ m. m.0.keeps) me ∙ pass.3)
-      (ap (λ m. m.0.holds) me ∙ ap (λ p. p.holds) was ∙ c.requires.idle) (ap (λ m. m.0.number) me ∙ ap (λ p. p.number) was ∙ c.requires.root)
-      some_number small (ap (λ m. has n m.0.given) me ∙ ap (λ p. has n p.given) was ∙ c.requires.unused),
+          (ap (λ m. m.0.lives) me ∙ pass.1) (ap (λ m. m.0.knows) me ∙ pass.2) (ap (λ m. m.0.keeps) me ∙ pass.3)
+          (ap (λ m. m.0.holds) me ∙ ap (λ p. p.holds) was ∙ c.requires.idle) (ap (λ m. m.0.number) me ∙ ap (λ p. p.number) was ∙ c.requires.root)
+          some_number small (ap (λ m. has n m.0.given) me ∙ ap (λ p. has n p.given) was ∙ c.requires.unused),
     )

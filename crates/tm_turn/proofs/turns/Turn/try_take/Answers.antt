@@ -11,19 +11,17 @@ compare_exchange-found-requires g c =
     let pass = c.pass.invariant in
     let was = c.pass.view_is in
     let wide = c.self.invariant.0 in
-    let idle = ap (λ p. p.holds) was ∙ c.requires.idle in
-    (
+    let idle = ap (λ p. p.holds) was ∙ c.requires.idle in (
       ap (λ p. p.turn) was ∙ c.requires.of.0 ∙ ap (λ t. t.turn) (sym c.self.view_is),
       omega arith,
       tries g.V.Kept.entries g.V.Kept.label (g.V.Kept.label table.key.value) table.table_id.slots seat.id seat.me.0 pass.1 pass.2 pass.3 idle
-      (c.from-word.result + 1) (add-one c.from-word.result ∙ ap suc (c.from-word.ensures ∙ sym pass.0)) seat.me.1 (pass.4 idle),
+          (c.from-word.result + 1) (add-one c.from-word.result ∙ ap suc (c.from-word.ensures ∙ sym pass.0)) seat.me.1 (pass.4 idle),
     )
 
 pub exchange-requires : goal.exchange-requires
 exchange-requires g c =
     let was = c.pass.view_is in
-    let wins = c.compare_exchange-found.ensures.2.0 c.if-found-ne0.false in
-    (
+    let wins = c.compare_exchange-found.ensures.2.0 c.if-found-ne0.false in (
       c.compare_exchange-found.ensures.0 ∙ ap (λ p. p.turn) was ∙ c.requires.of.0 ∙ ap (λ t. t.turn) (sym c.self.view_is),
       (Some wins.value, wins.took ∙ ap (λ l. (0, Some wins.value) ∷ rest l) (sym wins.took)),
     )
