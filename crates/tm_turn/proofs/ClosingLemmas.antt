@@ -8,7 +8,7 @@ use Rattle.atomic_table.specs.Table.{State, Final, Seen}
 use Rattle.tm_base.specs.declared.events.Entry.{Entry}
 use Rattle.tm_base.specs.Histories.{Label}
 use Rattle.tm_base.specs.Orders.{of_thread}
-use Rattle.tm_turn.specs.declared.views.SeatView.{SeatView}
+use Rattle.tm_turn.specs.declared.views.LocalView.{LocalView}
 use Rattle.tm_turn.specs.Lists.{AreOf, has}
 use Rattle.tm_turn.specs.Rule.{IsHome, IsHeld, FollowsRule}
 use Rattle.tm_turn.proofs.ListsLemmas.{clash, none_before, all_of_it}
@@ -19,27 +19,27 @@ true_or_false false = inr refl
 
 module _ {V : Type 0} (entries : V → List Entry) (label : V → Label) (key : Label) where
   -- The value that a closed turn hands back.
-  pub record Closes (v : SeatView) (found : Option V) : Type 0 where
+  pub record Closes (v : LocalView) (found : Option V) : Type 0 where
     pub value : V
     pub is : found ≡ Some value
     pub list : entries value ≡ v.seen
     pub same_label : label value ≡ key
     pub numbers : AreOf v.absorbed (entries value)
 
-  module _ (s : State (Option V) SeatView) (r : FollowsRule entries label key s) (id : ℕ) (v : SeatView) (at : get_elem? s.views id ≡ some v) (lives : v.lives ≡ true) (knows : v.knows ≡ true)
+  module _ (s : State (Option V) LocalView) (r : FollowsRule entries label key s) (id : ℕ) (v : LocalView) (at : get_elem? s.views id ≡ some v) (lives : v.lives ≡ true) (knows : v.knows ≡ true)
       (idle : v.holds ≡ false) (root : v.number ≡ 0) (back : (n : ℕ) → has n v.given ≡ true → has n v.absorbed ≡ true) where
     -- nobody else is left who could hold the turn
     at_home : (holder : Option ℕ) → IsHeld entries label key s r.history holder → IsHome entries label key s.homes r.history
     at_home None held = held.1
     at_home (Some j) held =
-        let u : SeatView = held.0 in
+        let u : LocalView = held.0 in
         let is = ((r.each id v at).live lives).root root in
         let live = (r.each j u held.1).live held.2.lives in
         absurd
         (dite (ℕ_discrete u.number 0)
         (λ none.
         let same : u ≡ v = some-injective u v (sym held.1 ∙ ap (get_elem? s.views) (r.apart j id u v held.1 at held.2.lives lives (none ∙ sym root)) ∙ at) in
-        clash v.holds (ap (λ (x : SeatView). x.holds) (sym same) ∙ held.2.holds) idle)
+        clash v.holds (ap (λ (x : LocalView). x.holds) (sym same) ∙ held.2.holds) idle)
         (λ other.
         let given = live.other other in
         let gave : has u.number v.given ≡ true = ap (has u.number) is.given_all ∙ given.in_given in
@@ -80,6 +80,6 @@ module _ {V : Type 0} (entries : V → List Entry) (label : V → Label) (key : 
           numbers = record { no_other = λ n k out. ap (λ (l : List Entry). of_thread l n) h.list ∙ nothing_of n k out };
         }
 
-  pub closes : (id : ℕ) (v : SeatView) (words : List ℕ) (xs : List (Option V)) (found : Option V) → Final (Seen (FollowsRule entries label key) id v) words xs
+  pub closes : (id : ℕ) (v : LocalView) (words : List ℕ) (xs : List (Option V)) (found : Option V) → Final (Seen (FollowsRule entries label key) id v) words xs
       → v.lives ≡ true → v.knows ≡ true → v.holds ≡ false → v.number ≡ 0 → ((n : ℕ) → has n v.given ≡ true → has n v.absorbed ≡ true) → get_elem? xs 0 ≡ some found → Closes v found
   closes id v words xs found end lives knows idle root back is = closes_at end.0 end.1.0 id v end.1.1 lives knows idle root back xs found end.4 is

@@ -1,21 +1,21 @@
 -- A split and a join keep the rule, and what the table tells of them.
-use Rattle.std.proofs.Common.{◌≡◌, ◌≢◌, ℕ, zero, suc, ◌+◌, ◌^◌, ◌<◌, ◌≤◌, ◌⊎◌, ⊎_elim, Bool, true, false, List, [], ◌∷◌, ◌++◌, length, set, Option, Some, None, refl, ap, sym, ◌∙◌, subst, arith, slice_index, length-set}
+use Rattle.std.proofs.Common.{◌≡◌, ◌≢◌, ℕ, ◌^◌, ◌<◌, ⊎_elim, Bool, true, false, List, [], ◌∷◌, ◌++◌, length, set, Option, Some, None, refl, ap, sym, ◌∙◌, subst, arith, slice_index, length-set}
 use mathlib.Core.Logic.{dite}
 use mathlib.Core.Option.{some, some-injective}
 use mathlib.Core.Option as maybe
 use native.Mathlib.Decide.{ℕ_discrete}
 use lib.ListN.{get_elem?}
-use Rattle.atomic_table.specs.Table.{State, Me, Act, keeps, Allows, Splits, Joins}
+use Rattle.atomic_table.specs.Table.{State, keeps, Allows, Splits, Joins}
 use Rattle.atomic_table.proofs.Lists.{at_set, set_else, at_longer}
 use Rattle.tm_base.specs.declared.events.Entry.{Entry}
 use Rattle.tm_base.specs.Histories.{Label}
 use Rattle.tm_base.specs.Orders.{of_thread}
-use Rattle.tm_turn.specs.declared.views.SeatView.{SeatView}
-use Rattle.tm_turn.specs.Lists.{StartsWith, has, longer}
-use Rattle.tm_turn.specs.Rule.{IsRoot, IsGiven, IsLive, IsJoined, IsSeated, IsHolder, IsHome, IsHeld, FollowsRule}
-use Rattle.tm_turn.specs.SeatViews.{newcomer, splitting, note_of, absorbing, meeting, learning, spent}
+use Rattle.tm_turn.specs.declared.views.LocalView.{LocalView}
+use Rattle.tm_turn.specs.Lists.{has, longer}
+use Rattle.tm_turn.specs.Rule.{IsConsistent, IsHeld, FollowsRule}
+use Rattle.tm_turn.specs.LocalViews.{newcomer, splitting, note_of, absorbing, meeting, learning, spent}
 use Rattle.tm_turn.specs.Steps.{Looks, Learns}
-use Rattle.tm_turn.proofs.ListsLemmas.{clash, StartsWith-self, StartsWith-trans, at_end, has-here, has-else, has-cases, has-more, has-none, squeezed, none_before, longer_begins}
+use Rattle.tm_turn.proofs.ListsLemmas.{clash, StartsWith-self, at_end, has-here, has-else, has-cases, has-more, has-none, squeezed, none_before, longer_begins}
 use Rattle.tm_turn.proofs.RuleLemmas.{stood, still_held, moved}
 use Rattle.tm_turn.proofs.StepsLemmas.{set_first, second_kept}
 
@@ -24,31 +24,31 @@ is_false true h = absurd (h refl)
 is_false false h = refl
 
 module _ {V : Type 0} (entries : V → List Entry) (label : V → Label) (key : Label) where
-  abbrev Rule : State (Option V) SeatView → Type 0
+  abbrev Rule : State (Option V) LocalView → Type 0
   Rule = FollowsRule entries label key
 
-  held_longer : (words : List ℕ) (homes : List (maybe.Option (Option V))) (views more : List SeatView) (history : List Entry) (holder : Option ℕ)
+  held_longer : (words : List ℕ) (homes : List (maybe.Option (Option V))) (views more : List LocalView) (history : List Entry) (holder : Option ℕ)
       → IsHeld entries label key (record { words = words; homes = homes; views = views }) history holder
       → IsHeld entries label key (record { words = words; homes = homes; views = views ++ more }) history holder
   held_longer words homes views more history None held = held
   held_longer words homes views more history (Some j) held = (held.0, at_longer views more j held.0 held.1, held.2)
 
-  module _ (s : State (Option V) SeatView) (r : FollowsRule entries label key s) (id : ℕ) (v : SeatView) (at : get_elem? s.views id ≡ some v) (lives : v.lives ≡ true) (idle : v.holds ≡ false) where
-    module _ (left right : SeatView) (given : List ℕ) where
+  module _ (s : State (Option V) LocalView) (r : FollowsRule entries label key s) (id : ℕ) (v : LocalView) (at : get_elem? s.views id ≡ some v) (lives : v.lives ≡ true) (idle : v.holds ≡ false) where
+    module _ (left right : LocalView) (given : List ℕ) where
       -- What a split owes: both views are seated, and the others still are.
       record Cut : Type 0 where
         pub same : v.number ≡ left.number
-        pub seated : IsSeated key r.history given r.absorbed r.holder id left
-        pub others : (j : ℕ) (u : SeatView) → j ≢ id → get_elem? s.views j ≡ some u → IsSeated key r.history given r.absorbed r.holder j u
-        pub fresh : (j : ℕ) → IsSeated key r.history given r.absorbed r.holder j right
-        pub apart : right.lives ≡ true → (j : ℕ) (u : SeatView) → get_elem? s.views j ≡ some u → u.lives ≡ true → u.number ≢ right.number
+        pub seated : IsConsistent key r.history given r.absorbed r.holder id left
+        pub others : (j : ℕ) (u : LocalView) → j ≢ id → get_elem? s.views j ≡ some u → IsConsistent key r.history given r.absorbed r.holder j u
+        pub fresh : (j : ℕ) → IsConsistent key r.history given r.absorbed r.holder j right
+        pub apart : right.lives ≡ true → (j : ℕ) (u : LocalView) → get_elem? s.views j ≡ some u → u.lives ≡ true → u.number ≢ right.number
         pub given_first : (n : ℕ) → has n r.absorbed ≡ true → (has n given ≡ true) × (n ≢ 0)
         pub strangers : (n : ℕ) → n ≢ 0 → has n given ≡ false → of_thread r.history n ≡ []
 
       cut : Cut → Rule (record { words = s.words; homes = s.homes; views = set s.views id left ++ right ∷ [] })
       cut c =
-          let views : List SeatView = set s.views id left in
-          let old = λ (i : ℕ) (u : SeatView) (h : get_elem? views i ≡ some u). stood s.views id i v left u at lives c.same h in
+          let views : List LocalView = set s.views id left in
+          let old = λ (i : ℕ) (u : LocalView) (h : get_elem? views i ≡ some u). stood s.views id i v left u at lives c.same h in
           record {
             history = r.history;
             given = given;
@@ -61,10 +61,10 @@ module _ {V : Type 0} (entries : V → List Entry) (label : V → Label) (key : 
                 ⊎_elim
                 (λ (there : get_elem? views j ≡ some u).
                 ⊎_elim
-                (λ (here : (j ≡ id) × (left ≡ u)). subst (λ (y : ℕ × SeatView). IsSeated key r.history given r.absorbed r.holder y.0 y.1) (λ k. (sym here.0 k, here.1 k)) c.seated)
+                (λ (here : (j ≡ id) × (left ≡ u)). subst (λ (y : ℕ × LocalView). IsConsistent key r.history given r.absorbed r.holder y.0 y.1) (λ k. (sym here.0 k, here.1 k)) c.seated)
                 (λ (else : (j ≢ id) × (get_elem? s.views j ≡ some u)). c.others j u else.0 else.1)
                 (at_set s.views id j left u there))
-                (λ (new : (j ≡ length views) × (right ≡ u)). subst (IsSeated key r.history given r.absorbed r.holder j) new.1 (c.fresh j))
+                (λ (new : (j ≡ length views) × (right ≡ u)). subst (IsConsistent key r.history given r.absorbed r.holder j) new.1 (c.fresh j))
                 (at_end views right u j e);
             apart = λ i j u w there here l m same.
                 ⊎_elim
@@ -75,13 +75,13 @@ module _ {V : Type 0} (entries : V → List Entry) (label : V → Label) (key : 
                 let two = old j w old_w in
                 r.apart i j one.0 two.0 one.1 two.1 (one.3 l) (two.3 m) (one.2 ∙ same ∙ sym two.2))
                 (λ (new_w : (j ≡ length views) × (right ≡ w)).
-                absurd (c.apart (ap (λ (x : SeatView). x.lives) new_w.1 ∙ m) i one.0 one.1 (one.3 l) (one.2 ∙ same ∙ ap (λ (x : SeatView). x.number) (sym new_w.1))))
+                absurd (c.apart (ap (λ (x : LocalView). x.lives) new_w.1 ∙ m) i one.0 one.1 (one.3 l) (one.2 ∙ same ∙ ap (λ (x : LocalView). x.number) (sym new_w.1))))
                 (at_end views right w j here))
                 (λ (new_u : (i ≡ length views) × (right ≡ u)).
                 ⊎_elim
                 (λ (old_w : get_elem? views j ≡ some w).
                 let two = old j w old_w in
-                absurd (c.apart (ap (λ (x : SeatView). x.lives) new_u.1 ∙ l) j two.0 two.1 (two.3 m) (two.2 ∙ sym same ∙ ap (λ (x : SeatView). x.number) (sym new_u.1))))
+                absurd (c.apart (ap (λ (x : LocalView). x.lives) new_u.1 ∙ l) j two.0 two.1 (two.3 m) (two.2 ∙ sym same ∙ ap (λ (x : LocalView). x.number) (sym new_u.1))))
                 (λ (new_w : (j ≡ length views) × (right ≡ w)). new_u.0 ∙ sym new_w.0)
                 (at_end views right w j here))
                 (at_end views right u i there);
@@ -89,21 +89,21 @@ module _ {V : Type 0} (entries : V → List Entry) (label : V → Label) (key : 
             strangers = c.strangers;
           }
 
-    module _ (other : ℕ) (w : SeatView) (elsewhere : other ≢ id) (there : get_elem? s.views other ≡ some w) (idle_other : w.holds ≡ false) (both : SeatView) (absorbed : List ℕ) where
+    module _ (other : ℕ) (w : LocalView) (elsewhere : other ≢ id) (there : get_elem? s.views other ≡ some w) (idle_other : w.holds ≡ false) (both : LocalView) (absorbed : List ℕ) where
       -- What a join owes: the joined view is seated, and the others still are.
       record Merged : Type 0 where
         pub same : v.number ≡ both.number
-        pub seated : IsSeated key r.history r.given absorbed r.holder id both
-        pub others : (j : ℕ) (u : SeatView) → j ≢ id → j ≢ other → get_elem? s.views j ≡ some u → IsSeated key r.history r.given absorbed r.holder j u
+        pub seated : IsConsistent key r.history r.given absorbed r.holder id both
+        pub others : (j : ℕ) (u : LocalView) → j ≢ id → j ≢ other → get_elem? s.views j ≡ some u → IsConsistent key r.history r.given absorbed r.holder j u
         pub given_first : (n : ℕ) → has n absorbed ≡ true → (has n r.given ≡ true) × (n ≢ 0)
 
-      abbrev between : List SeatView
+      abbrev between : List LocalView
       between = set s.views id both
 
-      abbrev last : List SeatView
+      abbrev last : List LocalView
       last = set between other spent
 
-      seated_spent : IsSeated key r.history r.given absorbed r.holder other spent
+      seated_spent : IsConsistent key r.history r.given absorbed r.holder other spent
       seated_spent =
           record {
             label = λ h. absurd (clash false h refl);
@@ -113,10 +113,10 @@ module _ {V : Type 0} (entries : V → List Entry) (label : V → Label) (key : 
             joined = λ h. absurd (clash false h refl);
           }
 
-      was_living : Merged → (i : ℕ) (u : SeatView) → get_elem? last i ≡ some u → u.lives ≡ true → (was : SeatView) × (get_elem? s.views i ≡ some was) × (was.number ≡ u.number) × (was.lives ≡ true)
+      was_living : Merged → (i : ℕ) (u : LocalView) → get_elem? last i ≡ some u → u.lives ≡ true → (was : LocalView) × (get_elem? s.views i ≡ some was) × (was.number ≡ u.number) × (was.lives ≡ true)
       was_living c i u h l =
           ⊎_elim
-          (λ (gone : (i ≡ other) × (spent ≡ u)). absurd (clash false (ap (λ (x : SeatView). x.lives) gone.1 ∙ l) refl))
+          (λ (gone : (i ≡ other) × (spent ≡ u)). absurd (clash false (ap (λ (x : LocalView). x.lives) gone.1 ∙ l) refl))
           (λ (still : (i ≢ other) × (get_elem? between i ≡ some u)). let was = stood s.views id i v both u at lives c.same still.1 in (was.0, was.1, was.2, was.3 l))
           (at_set between other i spent u h)
 
@@ -133,10 +133,10 @@ module _ {V : Type 0} (entries : V → List Entry) (label : V → Label) (key : 
             turn = still_held entries label key s.words s.words s.homes between r.history other w spent r.holder (set_else s.views id other both elsewhere ∙ there) idle_other refl first_held;
             each = λ j u e.
                 ⊎_elim
-                (λ (gone : (j ≡ other) × (spent ≡ u)). subst (λ (y : ℕ × SeatView). IsSeated key r.history r.given absorbed r.holder y.0 y.1) (λ k. (sym gone.0 k, gone.1 k)) seated_spent)
+                (λ (gone : (j ≡ other) × (spent ≡ u)). subst (λ (y : ℕ × LocalView). IsConsistent key r.history r.given absorbed r.holder y.0 y.1) (λ k. (sym gone.0 k, gone.1 k)) seated_spent)
                 (λ (still : (j ≢ other) × (get_elem? between j ≡ some u)).
                 ⊎_elim
-                (λ (here : (j ≡ id) × (both ≡ u)). subst (λ (y : ℕ × SeatView). IsSeated key r.history r.given absorbed r.holder y.0 y.1) (λ k. (sym here.0 k, here.1 k)) c.seated)
+                (λ (here : (j ≡ id) × (both ≡ u)). subst (λ (y : ℕ × LocalView). IsConsistent key r.history r.given absorbed r.holder y.0 y.1) (λ k. (sym here.0 k, here.1 k)) c.seated)
                 (λ (else : (j ≢ id) × (get_elem? s.views j ≡ some u)). c.others j u else.0 still.0 else.1)
                 (at_set s.views id j both u still.1))
                 (at_set between other j spent u e);
@@ -149,7 +149,7 @@ module _ {V : Type 0} (entries : V → List Entry) (label : V → Label) (key : 
           }
 
   -- pass 0 gives a number to a new pass
-  pub splits : (id n : ℕ) (v : SeatView) → v.lives ≡ true → v.knows ≡ true → v.keeps ≡ false → v.holds ≡ false → v.number ≡ 0 → 0 < n → n < 2 ^ 32 → has n v.given ≡ false
+  pub splits : (id n : ℕ) (v : LocalView) → v.lives ≡ true → v.knows ≡ true → v.keeps ≡ false → v.holds ≡ false → v.number ≡ 0 → 0 < n → n < 2 ^ 32 → has n v.given ≡ false
       → Splits Rule id v (splitting v n) (newcomer v.label n v.seen)
   splits id n v lives knows still idle root some_number small unused s r at =
       let seated = r.each id v at in
@@ -212,7 +212,7 @@ module _ {V : Type 0} (entries : V → List Entry) (label : V → Label) (key : 
       })
 
   -- what a pass has seen is split off as a note
-  pub tells : (id : ℕ) (v : SeatView) → v.lives ≡ true → v.knows ≡ true → v.holds ≡ false → Splits Rule id v v (note_of v)
+  pub tells : (id : ℕ) (v : LocalView) → v.lives ≡ true → v.knows ≡ true → v.holds ≡ false → Splits Rule id v v (note_of v)
   tells id v lives knows idle s r at =
       let seated = r.each id v at in
       cut s r id v at lives idle v (note_of v) r.given
@@ -233,10 +233,10 @@ module _ {V : Type 0} (entries : V → List Entry) (label : V → Label) (key : 
       })
 
   -- pass 0 takes in what another pass has seen
-  pub absorbs : (id other : ℕ) (v w : SeatView) → v.lives ≡ true → v.knows ≡ true → v.holds ≡ false → v.number ≡ 0 → w.lives ≡ true → w.knows ≡ true → w.holds ≡ false
+  pub absorbs : (id other : ℕ) (v w : LocalView) → v.lives ≡ true → v.knows ≡ true → v.holds ≡ false → v.number ≡ 0 → w.lives ≡ true → w.knows ≡ true → w.holds ≡ false
       → Joins Rule id v other w (absorbing v w) spent
   absorbs id other v w lives knows idle root lives_w knows_w idle_w s r at elsewhere at_other =
-      let both : SeatView = absorbing v w in
+      let both : LocalView = absorbing v w in
       let there : get_elem? s.views other ≡ some w = sym (set_else s.views id other both elsewhere) ∙ at_other in
       let seated = r.each id v at in
       let live = seated.live lives in
@@ -319,10 +319,10 @@ module _ {V : Type 0} (entries : V → List Entry) (label : V → Label) (key : 
       })
 
   -- a pass takes in what a note says
-  pub meets : (id other : ℕ) (v w : SeatView) → v.lives ≡ true → v.knows ≡ true → v.holds ≡ false → w.lives ≡ false → w.knows ≡ true → w.holds ≡ false
+  pub meets : (id other : ℕ) (v w : LocalView) → v.lives ≡ true → v.knows ≡ true → v.holds ≡ false → w.lives ≡ false → w.knows ≡ true → w.holds ≡ false
       → Joins Rule id v other w (meeting v w) spent
   meets id other v w lives knows idle dead_w knows_w idle_w s r at elsewhere at_other =
-      let both : SeatView = meeting v w in
+      let both : LocalView = meeting v w in
       let there : get_elem? s.views other ≡ some w = sym (set_else s.views id other both elsewhere) ∙ at_other in
       let seated = r.each id v at in
       let live = seated.live lives in
@@ -368,7 +368,7 @@ module _ {V : Type 0} (entries : V → List Entry) (label : V → Label) (key : 
         given_first = r.given_first;
       })
 
-  module _ (slots id : ℕ) (v : SeatView) (lives : v.lives ≡ true) (knows : v.knows ≡ true) (idle : v.holds ≡ false) (c : List (ℕ × Option V)) where
+  module _ (slots id : ℕ) (v : LocalView) (lives : v.lives ≡ true) (knows : v.knows ≡ true) (idle : v.holds ≡ false) (c : List (ℕ × Option V)) where
     -- pass 0 looks before it splits
     pub looks : v.keeps ≡ false → v.number ≡ 0 → Allows Rule slots id (v, c) 0 (λ n. n) (λ _ after. Looks (v, c) after)
     looks still root s r wide at small =
@@ -402,7 +402,7 @@ module _ {V : Type 0} (entries : V → List Entry) (label : V → Label) (key : 
     learns keeps_lists s r wide at small =
         let seated = r.each id v at in
         let live = seated.live lives in
-        let w : SeatView = learning v in
+        let w : LocalView = learning v in
         let n : ℕ = slice_index s.words 0 in
         let words : List ℕ = set s.words 0 n in (
           w,

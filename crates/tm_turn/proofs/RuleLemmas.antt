@@ -1,5 +1,5 @@
 -- What the rule says, and that a step of one pass that lives keeps it.
-use Rattle.std.proofs.Common.{◌≡◌, ◌≢◌, ℕ, suc, ◌⊎◌, ⊎_elim, Bool, true, false, List, [], ◌∷◌, length, set, Option, Some, None, refl, ap, sym, ◌∙◌, subst, arith, slice_index}
+use Rattle.std.proofs.Common.{◌≡◌, ◌≢◌, ℕ, ⊎_elim, Bool, true, false, List, length, set, Option, Some, None, refl, ap, sym, ◌∙◌, subst, slice_index}
 use mathlib.Core.Logic.{dite}
 use mathlib.Core.Option.{some, some-injective}
 use mathlib.Core.Option as maybe
@@ -10,46 +10,46 @@ use Rattle.atomic_table.proofs.Lists.{at_set, set_else}
 use Rattle.tm_base.specs.declared.events.Entry.{Entry}
 use Rattle.tm_base.specs.Histories.{Label}
 use Rattle.tm_base.specs.Orders.{of_thread}
-use Rattle.tm_turn.specs.declared.views.SeatView.{SeatView}
+use Rattle.tm_turn.specs.declared.views.LocalView.{LocalView}
 use Rattle.tm_turn.specs.Lists.{StartsWith, has}
-use Rattle.tm_turn.specs.Rule.{IsRoot, IsGiven, IsLive, IsJoined, IsSeated, IsHolder, IsHome, IsHeld, FollowsRule}
+use Rattle.tm_turn.specs.Rule.{IsConsistent, IsHolder, IsHeld, FollowsRule}
 use Rattle.tm_turn.proofs.ListsLemmas.{clash, StartsWith-trans}
 
 -- A view that has changed in a step of its own: the number, the label and the lists of numbers stay.
-abbrev pub stepping : SeatView → List Entry → Bool → ℕ → ℕ → ℕ → Bool → List Entry → List Entry → Option ℕ → SeatView
+abbrev pub stepping : LocalView → List Entry → Bool → ℕ → ℕ → ℕ → Bool → List Entry → List Entry → Option ℕ → LocalView
 stepping v seen holds turns misses missed keeps first second joined =
     record v { seen = seen; holds = holds; turns = turns; misses = misses; missed = missed; keeps = keeps; first = first; second = second; joined = joined }
 
 -- what stood at i before the seat id changed, with the same number
-pub stood : (views : List SeatView) (id i : ℕ) (v w u : SeatView) → get_elem? views id ≡ some v → v.lives ≡ true → v.number ≡ w.number → get_elem? (set views id w) i ≡ some u
-    → (was : SeatView) × (get_elem? views i ≡ some was) × (was.number ≡ u.number) × (u.lives ≡ true → was.lives ≡ true)
+pub stood : (views : List LocalView) (id i : ℕ) (v w u : LocalView) → get_elem? views id ≡ some v → v.lives ≡ true → v.number ≡ w.number → get_elem? (set views id w) i ≡ some u
+    → (was : LocalView) × (get_elem? views i ≡ some was) × (was.number ≡ u.number) × (u.lives ≡ true → was.lives ≡ true)
 stood views id i v w u at lives same h =
     ⊎_elim
-    (λ (here : (i ≡ id) × (w ≡ u)). (v, ap (get_elem? views) here.0 ∙ at, same ∙ ap (λ (x : SeatView). x.number) here.1, λ _. lives))
+    (λ (here : (i ≡ id) × (w ≡ u)). (v, ap (get_elem? views) here.0 ∙ at, same ∙ ap (λ (x : LocalView). x.number) here.1, λ _. lives))
     (λ (else : (i ≢ id) × (get_elem? views i ≡ some u)). (u, else.1, refl, λ l. l))
     (at_set views id i w u h)
 
 module _ {V : Type 0} (entries : V → List Entry) (label : V → Label) (key : Label) where
   abbrev pub Table : Type 0
-  Table = State (Option V) SeatView
+  Table = State (Option V) LocalView
 
-  abbrev pub Follows : State (Option V) SeatView → Type 0
+  abbrev pub Follows : State (Option V) LocalView → Type 0
   Follows = FollowsRule entries label key
 
   -- a view that doesn't hold the turn may change, and the holder stays
-  pub still_held : (words new : List ℕ) (homes : List (maybe.Option (Option V))) (views : List SeatView) (history : List Entry) (id : ℕ) (v w : SeatView) (holder : Option ℕ)
+  pub still_held : (words new : List ℕ) (homes : List (maybe.Option (Option V))) (views : List LocalView) (history : List Entry) (id : ℕ) (v w : LocalView) (holder : Option ℕ)
       → get_elem? views id ≡ some v → v.holds ≡ false → slice_index new 0 ≡ slice_index words 0
       → IsHeld entries label key (record { words = words; homes = homes; views = views }) history holder
       → IsHeld entries label key (record { words = new; homes = homes; views = set views id w }) history holder
   still_held words new homes views history id v w None at idle same held = (same ∙ held.0, held.1)
   still_held words new homes views history id v w (Some j) at idle same held =
-      let other : j ≢ id = λ e. clash held.0.holds held.2.holds (ap (λ (x : SeatView). x.holds) (some-injective held.0 v (sym held.1 ∙ ap (get_elem? views) e ∙ at)) ∙ idle) in (
+      let other : j ≢ id = λ e. clash held.0.holds held.2.holds (ap (λ (x : LocalView). x.holds) (some-injective held.0 v (sym held.1 ∙ ap (get_elem? views) e ∙ at)) ∙ idle) in (
         held.0,
         set_else views id j w other ∙ held.1,
         subst (λ (n : ℕ). IsHolder n history held.0) (sym same) held.2,
       )
 
-  module _ (s : State (Option V) SeatView) (r : FollowsRule entries label key s) (id : ℕ) (v : SeatView) (at : get_elem? s.views id ≡ some v) where
+  module _ (s : State (Option V) LocalView) (r : FollowsRule entries label key s) (id : ℕ) (v : LocalView) (at : get_elem? s.views id ≡ some v) where
     -- no number that was absorbed is a living pass's
     pub absorbed_out : v.lives ≡ true → (n : ℕ) → has n r.absorbed ≡ true → n ≢ v.number
     absorbed_out lives n h same =
@@ -73,7 +73,7 @@ module _ {V : Type 0} (entries : V → List Entry) (label : V → Label) (key : 
         subst (IsHolder (slice_index s.words 0) r.history) (some-injective held.0 v (sym held.1 ∙ at)) held.2
 
     module _ (lives : v.lives ≡ true) (knows : v.knows ≡ true) (seen : List Entry) (holds : Bool) (turns misses missed : ℕ) (keeps : Bool) (first second : List Entry) (joined : Option ℕ) (history : List Entry) (holder : Option ℕ) where
-      abbrev after : SeatView
+      abbrev after : LocalView
       after = stepping v seen holds turns misses missed keeps first second joined
 
       -- What a step of the pass owes: the history grows by its own events alone, it has seen a beginning
@@ -88,7 +88,7 @@ module _ {V : Type 0} (entries : V → List Entry) (label : V → Label) (key : 
         pub leaves_it : (j : ℕ) → j ≢ id → r.holder ≡ Some j → holder ≡ Some j
         pub keeps_none : keeps ≡ false
 
-      own_seated : Owed → IsSeated key history r.given r.absorbed holder id after
+      own_seated : Owed → IsConsistent key history r.given r.absorbed holder id after
       own_seated o =
           let was = r.each id v at in
           let live = was.live lives in
@@ -105,7 +105,7 @@ module _ {V : Type 0} (entries : V → List Entry) (label : V → Label) (key : 
             joined = λ k. absurd (clash keeps k o.keeps_none);
           }
 
-      other_seated : Owed → (j : ℕ) (u : SeatView) → j ≢ id → get_elem? s.views j ≡ some u → IsSeated key history r.given r.absorbed holder j u
+      other_seated : Owed → (j : ℕ) (u : LocalView) → j ≢ id → get_elem? s.views j ≡ some u → IsConsistent key history r.given r.absorbed holder j u
       other_seated o j u other there =
           let was = r.each j u there in
           record {
@@ -143,7 +143,7 @@ module _ {V : Type 0} (entries : V → List Entry) (label : V → Label) (key : 
             turn = held;
             each = λ j u e.
                 ⊎_elim
-                (λ (here : (j ≡ id) × (after ≡ u)). subst (λ (y : ℕ × SeatView). IsSeated key history r.given r.absorbed holder y.0 y.1) (λ k. (sym here.0 k, here.1 k)) (own_seated o))
+                (λ (here : (j ≡ id) × (after ≡ u)). subst (λ (y : ℕ × LocalView). IsConsistent key history r.given r.absorbed holder y.0 y.1) (λ k. (sym here.0 k, here.1 k)) (own_seated o))
                 (λ (else : (j ≢ id) × (get_elem? s.views j ≡ some u)). other_seated o j u else.0 else.1)
                 (at_set s.views id j after u e);
             apart = λ i j u w there here l m same.

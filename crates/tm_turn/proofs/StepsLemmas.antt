@@ -1,9 +1,7 @@
 -- The steps of the holder, and of who wants to be it.
-use Rattle.std.proofs.Common.{◌≡◌, ◌≢◌, ℕ, zero, suc, ◌+◌, ◌%◌, ◌^◌, ◌<◌, ◌≤◌, eqb, Bool, true, false, List, [], ◌∷◌, ◌++◌, length, set, Option, Some, None, refl, ap, sym, ◌∙◌, subst, arith, slice_index, length-set, length-append}
-use mathlib.Core.Logic.{dite}
+use Rattle.std.proofs.Common.{◌≡◌, ◌≢◌, ℕ, zero, suc, ◌+◌, ◌%◌, ◌^◌, ◌<◌, eqb, true, false, List, [], ◌∷◌, ◌++◌, length, set, Option, Some, None, refl, ap, sym, ◌∙◌, subst, arith, slice_index, length-set, length-append}
 use mathlib.Core.Option.{none, some, some-injective}
 use mathlib.Core.Option as maybe
-use native.Mathlib.Decide.{ℕ_discrete}
 use lib.ListN.{get_elem?}
 use prog.Atomic.{either}
 use Rattle.atomic_table.specs.Table.{State, Me, Act, keeps, takes, gives, Valid, Allows, stepped, carried_after, opening}
@@ -11,12 +9,12 @@ use Rattle.atomic_table.proofs.Lists.{set_here, exchanged}
 use Rattle.tm_base.specs.declared.events.Entry.{Entry}
 use Rattle.tm_base.specs.Histories.{Label}
 use Rattle.tm_base.specs.Orders.{of_thread}
-use Rattle.tm_turn.specs.declared.views.SeatView.{SeatView}
-use Rattle.tm_turn.specs.Lists.{StartsWith, has}
-use Rattle.tm_turn.specs.Rule.{IsSeated, IsHolder, IsHome, IsHeld, FollowsRule}
-use Rattle.tm_turn.specs.SeatViews.{newcomer, taking, missing, noting, giving}
-use Rattle.tm_turn.specs.Steps.{Wins, Loses, Tries, Notes, Gives}
-use Rattle.tm_turn.proofs.ListsLemmas.{clash, StartsWith-self, StartsWith-snoc, of_thread-own, of_thread-other}
+use Rattle.tm_turn.specs.declared.views.LocalView.{LocalView}
+use Rattle.tm_turn.specs.Lists.{StartsWith}
+use Rattle.tm_turn.specs.Rule.{IsConsistent, IsHolder, IsHome, IsHeld, FollowsRule}
+use Rattle.tm_turn.specs.LocalViews.{newcomer, taking, missing, noting, giving}
+use Rattle.tm_turn.specs.Steps.{Tries, Notes, Gives}
+use Rattle.tm_turn.proofs.ListsLemmas.{clash, StartsWith-self, StartsWith-snoc, of_thread-other}
 use Rattle.tm_turn.proofs.RuleLemmas.{its_turn, still_held, moved}
 
 -- the two words of a table, after a write into one of them
@@ -47,26 +45,26 @@ alone a b zero h = (refl, some-injective a b h)
 alone a b (suc j) h = absurd (maybe.some-ne-none b (sym h))
 
 module _ {V : Type 0} (entries : V → List Entry) (label : V → Label) (key : Label) where
-  abbrev Rule : State (Option V) SeatView → Type 0
+  abbrev Rule : State (Option V) LocalView → Type 0
   Rule = FollowsRule entries label key
 
   -- where the word is 0 the value is at home
-  free_turn : (s : State (Option V) SeatView) (history : List Entry) (holder : Option ℕ) → IsHeld entries label key s history holder → slice_index s.words 0 ≡ 0
+  free_turn : (s : State (Option V) LocalView) (history : List Entry) (holder : Option ℕ) → IsHeld entries label key s history holder → slice_index s.words 0 ≡ 0
       → (holder ≡ None) × IsHome entries label key s.homes history
   free_turn s history None held unheld = (refl, held.1)
   free_turn s history (Some j) held unheld = let named = held.2.named in absurd (omega arith)
 
   -- where it isn't, one seat holds the turn
-  taken_turn : (s : State (Option V) SeatView) (history : List Entry) (holder : Option ℕ) → IsHeld entries label key s history holder → slice_index s.words 0 ≢ 0
-      → (j : ℕ) × (v : SeatView) × (get_elem? s.views j ≡ some v) × IsHolder (slice_index s.words 0) history v
+  taken_turn : (s : State (Option V) LocalView) (history : List Entry) (holder : Option ℕ) → IsHeld entries label key s history holder → slice_index s.words 0 ≢ 0
+      → (j : ℕ) × (v : LocalView) × (get_elem? s.views j ≡ some v) × IsHolder (slice_index s.words 0) history v
   taken_turn s history None held some_word = absurd (some_word held.0)
   taken_turn s history (Some j) held some_word = (j, held.0, held.1, held.2)
 
-  module _ (slots id : ℕ) (v : SeatView) (lives : v.lives ≡ true) (knows : v.knows ≡ true) (still : v.keeps ≡ false) where
+  module _ (slots id : ℕ) (v : LocalView) (lives : v.lives ≡ true) (knows : v.knows ≡ true) (still : v.keeps ≡ false) where
     module _ (idle : v.holds ≡ false) (word : ℕ) (is_word : word ≡ suc v.number) where
-      module _ (s : State (Option V) SeatView) (r : FollowsRule entries label key s) (at : get_elem? s.views id ≡ some v) where
+      module _ (s : State (Option V) LocalView) (r : FollowsRule entries label key s) (at : get_elem? s.views id ≡ some v) where
         abbrev Next : ℕ → Type 0
-        Next x = (w : SeatView) × (a : Act (Option V)) × Valid s.homes [] a × FollowsRule entries label key (stepped s 0 x id [] w a) × Tries entries label (v, []) (slice_index s.words 0) (w, carried_after [] a)
+        Next x = (w : LocalView) × (a : Act (Option V)) × Valid s.homes [] a × FollowsRule entries label key (stepped s 0 x id [] w a) × Tries entries label (v, []) (slice_index s.words 0) (w, carried_after [] a)
 
         wins : slice_index s.words 0 ≡ 0 → Next word
         wins unheld =
@@ -74,7 +72,7 @@ module _ {V : Type 0} (entries : V → List Entry) (label : V → Label) (key : 
             let home = free.1 in
             let seated = r.each id v at in
             let live = seated.live lives in
-            let w : SeatView = taking v r.history in
+            let w : LocalView = taking v r.history in
             let words : List ℕ = set s.words 0 word in
             let same : r.history ≡ entries home.value = sym home.list in (
               w,
@@ -110,12 +108,12 @@ module _ {V : Type 0} (entries : V → List Entry) (label : V → Label) (key : 
         loses some_word =
             let n : ℕ = slice_index s.words 0 in
             let taken = taken_turn s r.history r.holder r.turn some_word in
-            let u : SeatView = taken.1 in
+            let u : LocalView = taken.1 in
             let seated = r.each id v at in
             let live = seated.live lives in
             let other_live = (r.each taken.0 u taken.2).live taken.3.lives in
             let named = taken.3.named in
-            let w : SeatView = missing v n in
+            let w : LocalView = missing v n in
             let words : List ℕ = set s.words 0 n in
             let same_word : slice_index words 0 ≡ n = set_first s.words n r.wide in
             let is_it : u.number ≡ v.number → u ≡ v =
@@ -141,7 +139,7 @@ module _ {V : Type 0} (entries : V → List Entry) (label : V → Label) (key : 
                 λ _. record {
                   took = refl;
                   view = refl;
-                  other = λ e. let same : u.number ≡ v.number = omega arith in clash v.holds (ap (λ (x : SeatView). x.holds) (sym (is_it same)) ∙ taken.3.holds) idle;
+                  other = λ e. let same : u.number ≡ v.number = omega arith in clash v.holds (ap (λ (x : LocalView). x.holds) (sym (is_it same)) ∙ taken.3.holds) idle;
                   small = let low = other_live.small in omega arith;
                 },
               ),
@@ -160,7 +158,7 @@ module _ {V : Type 0} (entries : V → List Entry) (label : V → Label) (key : 
           let turn = its_turn entries label key s r id v at holds in
           let seated = r.each id v at in
           let live = seated.live lives in
-          let w : SeatView = noting v e in
+          let w : LocalView = noting v e in
           let n : ℕ = (slice_index s.words 1 + 1) % 2 ^ 64 in
           let words : List ℕ = set s.words 1 n in
           let history : List Entry = v.seen ++ e ∷ [] in
@@ -194,7 +192,7 @@ module _ {V : Type 0} (entries : V → List Entry) (label : V → Label) (key : 
           let turn = its_turn entries label key s r id v at holds in
           let seated = r.each id v at in
           let live = seated.live lives in
-          let w : SeatView = giving v in
+          let w : LocalView = giving v in
           let words : List ℕ = set s.words 0 0 in (
             w,
             gives,
@@ -215,14 +213,14 @@ module _ {V : Type 0} (entries : V → List Entry) (label : V → Label) (key : 
             (refl, refl),
           )
 
-      pub gives_back : (x : V) (m : Me (Option V) SeatView) → m ≡ (v, (0, Some x) ∷ []) → slots ≡ 1 → entries x ≡ v.seen → label x ≡ v.label
+      pub gives_back : (x : V) (m : Me (Option V) LocalView) → m ≡ (v, (0, Some x) ∷ []) → slots ≡ 1 → entries x ≡ v.seen → label x ≡ v.label
           → Allows Rule slots id m 0 (λ _. 0) (λ _ after. Gives m after)
-      gives_back x m is one list same = subst (λ (n : Me (Option V) SeatView). Allows Rule slots id n 0 (λ _. 0) (λ _ after. Gives n after)) (sym is) (gives_home x one list same)
+      gives_back x m is one list same = subst (λ (n : Me (Option V) LocalView). Allows Rule slots id n 0 (λ _. 0) (λ _ after. Gives n after)) (sym is) (gives_home x one list same)
 
   pub opens : (value : V) → entries value ≡ [] → label value ≡ key → Rule (opening (0 ∷ 0 ∷ []) (Some value ∷ []) (newcomer key 0 []))
   opens value empty same =
-      let v : SeatView = newcomer key 0 [] in
-      let seated : IsSeated key [] [] [] None 0 v =
+      let v : LocalView = newcomer key 0 [] in
+      let seated : IsConsistent key [] [] [] None 0 v =
       record {
         label = λ _. refl;
         begins = λ _. StartsWith-self [];
@@ -243,7 +241,7 @@ module _ {V : Type 0} (entries : V → List Entry) (label : V → Label) (key : 
         wide = refl;
         count = refl;
         turn = (refl, record { value = value; home = refl; list = empty; same_label = same });
-        each = λ j u h. let is = alone v u j h in subst (λ (y : ℕ × SeatView). IsSeated key [] [] [] None y.0 y.1) (λ k. (sym is.0 k, is.1 k)) seated;
+        each = λ j u h. let is = alone v u j h in subst (λ (y : ℕ × LocalView). IsConsistent key [] [] [] None y.0 y.1) (λ k. (sym is.0 k, is.1 k)) seated;
         apart = λ i j u w there here _ _ _. (alone v u i there).0 ∙ sym (alone v w j here).0;
         given_first = λ n h. absurd (clash false h refl);
         strangers = λ n _ _. refl;

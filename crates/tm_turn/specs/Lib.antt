@@ -1,5 +1,5 @@
 pub mod Lists
-pub mod SeatViews
+pub mod LocalViews
 pub mod Passes
 pub mod Rule
 pub mod Steps

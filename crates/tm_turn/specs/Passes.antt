@@ -4,16 +4,16 @@ use Rattle.atomic_table.specs.Seated.{TableId}
 use Rattle.tm_base.specs.declared.events.Entry.{Entry}
 use Rattle.tm_base.specs.Histories.{Label}
 use Rattle.tm_base.specs.Orders.{of_thread}
-use Rattle.tm_turn.specs.declared.views.SeatView.{SeatView}
+use Rattle.tm_turn.specs.declared.views.LocalView.{LocalView}
 
 -- Which turn it is, and the object, the kind and the number of threads of its value.
 pub record TurnView : Type 0 where
   pub turn : TableId
   pub label : Label
 
--- Which turn the pass is of, with that turn's label, and which of its seats it has; its number; the events that it has
--- seen; the numbers that were split from it, and those that it absorbed; whether it holds the turn;
--- how often it won the turn and how often it lost it, and the word that it read when it last lost.
+-- Which turn the pass is of, with that turn's label, and which of the turn's seats it has; its number; the
+-- events that it has seen; the numbers that were split from it, and those that it absorbed; whether it holds
+-- the turn; how often it won the turn; how often it lost it, and the word that it read when it lost last.
 pub record PassView : Type 0 where
   pub turn : TableId
   pub label : Label
@@ -27,7 +27,7 @@ pub record PassView : Type 0 where
   pub misses : ℕ
   pub missed : ℕ
 
--- The pass's own events, among those that it has seen.
+-- The pass's own events among those that it has seen.
 abbrev pub mine : PassView → List Entry
 mine p = of_thread p.seen p.number
 
@@ -35,12 +35,13 @@ mine p = of_thread p.seen p.number
 abbrev pub IsPassOf : TurnView → PassView → Type 0
 IsPassOf t p = (p.turn ≡ t.turn) × (p.label ≡ t.label)
 
--- The value is the one that the pass took when it won the turn last, and the pass holds the turn still.
+-- A value that was taken by `taker` is the one that the pass holds: it is the same pass, which holds the
+-- turn, and has won it no more since.
 abbrev pub IsHeldBy : PassView → PassView → Type 0
 IsHeldBy p taker = (p.holds ≡ true) × (taker.turn ≡ p.turn) × (taker.seat ≡ p.seat) × (taker.turns ≡ p.turns)
 
 -- What contracts see of what a seat knows.
-abbrev pub pass_view : TableId → ℕ → SeatView → PassView
+abbrev pub pass_view : TableId → ℕ → LocalView → PassView
 pass_view turn seat v =
     record {
       turn = turn;

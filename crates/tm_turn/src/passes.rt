@@ -1,6 +1,6 @@
 ghost use Rattle.std.specs.Prelude.{◌≡◌};
 
-use crate::views::SeatView;
+use crate::views::LocalView;
 use atomic_table::Seat;
 use std::marker::Model;
 
@@ -10,7 +10,7 @@ use std::marker::Model;
 #[derive(Drop)]
 pub struct Pass<V> {
     pub(crate) number: u32,
-    pub(crate) seat: Seat<Option<V>, SeatView>,
+    pub(crate) seat: Seat<Option<V>, LocalView>,
 }
 
 impl<V> Model for Pass<V> {

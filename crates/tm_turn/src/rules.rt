@@ -1,8 +1,8 @@
 // The rule of a turn's table, and what each of its steps tells. These types are for the proofs alone.
-ghost use Rattle.tm_turn.specs.SeatViews.{newcomer, splitting, note_of, absorbing, meeting, spent};
+ghost use Rattle.tm_turn.specs.LocalViews.{newcomer, splitting, note_of, absorbing, meeting, spent};
 ghost use Rattle.tm_turn.specs.Steps.{Tries, Notes, Gives, Looks, Learns};
 
-use crate::views::SeatView;
+use crate::views::LocalView;
 use atomic_table::{Join, Play, Split, TableRule};
 use std::marker::{Brand, PhantomData};
 use std::snapshot::Snapshot;
@@ -11,10 +11,10 @@ use tm_base::Kept;
 /// The rule of the table: one holder, one history.
 pub struct TurnRule;
 
-impl<V: Kept> TableRule<Option<V>, SeatView, Snapshot<V>> for TurnRule {
+impl<V: Kept> TableRule<Option<V>, LocalView, Snapshot<V>> for TurnRule {
     ghost use Rattle.std.specs.Prelude.{[]};
     ghost use Rattle.tm_turn.specs.Rule.{FollowsRule};
-    ghost use Rattle.tm_turn.specs.SeatViews.{newcomer};
+    ghost use Rattle.tm_turn.specs.LocalViews.{newcomer};
 
     ghost holds = { λ key. FollowsRule V.entries V.label (V.label key.value) };
 
@@ -24,7 +24,7 @@ impl<V: Kept> TableRule<Option<V>, SeatView, Snapshot<V>> for TurnRule {
 /// A compare-exchange on `holder`, from 0.
 pub struct TryTurn;
 
-impl<V: Kept> Play<Option<V>, SeatView> for TryTurn {
+impl<V: Kept> Play<Option<V>, LocalView> for TryTurn {
     ghost then = { λ _ m found after. Tries V.entries V.label m found after };
 }
 
@@ -46,28 +46,28 @@ pub struct NoteEntry<E> {
     marker: PhantomData<E>,
 }
 
-impl<V, E: Noted> Play<Option<V>, SeatView> for NoteEntry<E> {
+impl<V, E: Noted> Play<Option<V>, LocalView> for NoteEntry<E> {
     ghost then = { λ _ m _ after. Notes E.entry m after };
 }
 
 /// A store of 0 to `holder`.
 pub struct GiveTurn;
 
-impl<V> Play<Option<V>, SeatView> for GiveTurn {
+impl<V> Play<Option<V>, LocalView> for GiveTurn {
     ghost then = { λ _ m _ after. Gives m after };
 }
 
 /// A load of `holder` before a split.
 pub struct LookBefore;
 
-impl<V> Play<Option<V>, SeatView> for LookBefore {
+impl<V> Play<Option<V>, LocalView> for LookBefore {
     ghost then = { λ _ m _ after. Looks m after };
 }
 
 /// A load of `holder` after a join.
 pub struct LearnAfter;
 
-impl<V> Play<Option<V>, SeatView> for LearnAfter {
+impl<V> Play<Option<V>, LocalView> for LearnAfter {
     ghost then = { λ _ m _ after. Learns m after };
 }
 
@@ -87,7 +87,7 @@ pub struct SplitPass<N> {
     marker: PhantomData<N>,
 }
 
-impl<N: Numbered> Split<SeatView> for SplitPass<N> {
+impl<N: Numbered> Split<LocalView> for SplitPass<N> {
     ghost left = { λ v. splitting v N.number };
 
     ghost right = { λ v. newcomer v.label N.number v.seen };
@@ -96,7 +96,7 @@ impl<N: Numbered> Split<SeatView> for SplitPass<N> {
 /// What a pass has seen is split off as a note.
 pub struct SplitNote;
 
-impl Split<SeatView> for SplitNote {
+impl Split<LocalView> for SplitNote {
     ghost left = { λ v. v };
 
     ghost right = { λ v. note_of v };
@@ -105,7 +105,7 @@ impl Split<SeatView> for SplitNote {
 /// A pass is joined to pass 0.
 pub struct JoinPass;
 
-impl Join<SeatView> for JoinPass {
+impl Join<LocalView> for JoinPass {
     ghost both = { λ v w. absorbing v w };
 
     ghost spent = { spent };
@@ -114,7 +114,7 @@ impl Join<SeatView> for JoinPass {
 /// A note is joined to a pass.
 pub struct JoinNote;
 
-impl Join<SeatView> for JoinNote {
+impl Join<LocalView> for JoinNote {
     ghost both = { λ v w. meeting v w };
 
     ghost spent = { spent };

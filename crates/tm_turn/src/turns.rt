@@ -5,7 +5,7 @@ ghost use Rattle.tm_turn.specs.Passes.{IsHeldBy, IsPassOf, mine};
 use crate::held::{Busy, Held};
 use crate::passes::Pass;
 use crate::rules::{GiveTurn, NoteEntry, Noted, TryTurn, TurnRule};
-use crate::views::SeatView;
+use crate::views::LocalView;
 use atomic_table::{Refused, Seat, Table};
 use std::alloc::Global;
 use std::marker::{Brand, Model};
@@ -27,7 +27,7 @@ pub(crate) const VALUE: usize = 0;
 /// Contracts see which turn it is, and the label of its value, which stays for good.
 #[derive(Drop)]
 pub struct Turn<V: Kept> {
-    pub(crate) table: Table<Option<V>, SeatView, Snapshot<V>, TurnRule, Global>,
+    pub(crate) table: Table<Option<V>, LocalView, Snapshot<V>, TurnRule, Global>,
 }
 
 impl<V: Kept> Model for Turn<V> {

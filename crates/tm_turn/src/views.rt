@@ -20,7 +20,7 @@ impl Model for ObjectLabel {
 
 /// What a seat at a turn's table knows. No value of it is made: it stands in proofs alone, and costs
 /// nothing.
-pub struct SeatView {
+pub struct LocalView {
     /// The label of the turn.
     pub label: ObjectLabel,
     /// Whether it knows anything. A seat that was joined to another doesn't.

@@ -2,7 +2,7 @@
 use Rattle.std.proofs.Common.{ap, sym, ◌∙◌, subst, ◌++◌, ◌∷◌, [], Some}
 use Rattle.atomic_table.specs.Table.{opening}
 use Rattle.tm_turn.specs.Rule.{FollowsRule}
-use Rattle.tm_turn.specs.SeatViews.{newcomer}
+use Rattle.tm_turn.specs.LocalViews.{newcomer}
 use Rattle.tm_turn.proofs.StepsLemmas.{opens}
 use Rattle.tm_turn.proofs.turns.Turn.make.Goals as goal
 

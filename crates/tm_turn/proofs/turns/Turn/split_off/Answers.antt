@@ -1,5 +1,5 @@
 -- Each step keeps the rule.
-use Rattle.std.proofs.Common.{◌≡◌, ◌<◌, ◌^◌, false, ap, sym, ◌∙◌, arith}
+use Rattle.std.proofs.Common.{◌<◌, ◌^◌, ap, sym, ◌∙◌, arith}
 use Rattle.tm_turn.specs.Lists.{has}
 use Rattle.tm_turn.proofs.JoinsLemmas.{looks, splits}
 use Rattle.tm_turn.proofs.turns.Turn.split_off.Goals as goal
