@@ -3,3 +3,4 @@ pub mod LocalViews
 pub mod Passes
 pub mod Rule
 pub mod Steps
+pub mod StoredPasses

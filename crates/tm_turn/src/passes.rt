@@ -14,14 +14,14 @@ pub struct Pass<V> {
 }
 
 impl<V> Model for Pass<V> {
-    ghost use Rattle.std.specs.Prelude.{◌≡◌, true, false, [], ◌∷◌, None};
     ghost use Rattle.tm_turn.specs.Passes.{PassView, pass_view};
+    ghost use Rattle.tm_turn.specs.StoredPasses.{KeepsPass};
 
     ghost Value = { PassView };
 
     ghost view = { λ p. pass_view p.seat.table_id p.seat.id p.seat.me.0 };
 
-    ghost invariant = { λ p. (p.seat.me.0.number ≡ p.number) × (p.seat.me.0.lives ≡ true) × (p.seat.me.0.knows ≡ true) × (p.seat.me.0.keeps ≡ false) × (p.seat.me.0.holds ≡ false → p.seat.me.1 ≡ []) × (p.seat.me.0.holds ≡ true → p.seat.me.1 ≡ (0, None) ∷ []) };
+    ghost invariant = { λ p. KeepsPass p.number p.seat.me };
 }
 
 impl<V> Pass<V> {

@@ -18,10 +18,10 @@ join_seat-requires g c =
     let idle_other = ap (λ p. p.holds) was_other ∙ c.requires.idle_other in (
       ap (λ p. p.turn) was ∙ c.requires.of.0 ∙ its,
       ap (λ p. p.turn) was_other ∙ c.requires.of_other.0 ∙ its,
-      other.4 idle_other,
+      other.without idle_other,
       omega arith,
       absorbs g.V.Kept.entries g.V.Kept.label (g.V.Kept.label table.key.value) seat.id seat_other.id seat.me.0 seat_other.me.0
-          pass.1 pass.2 idle (ap (λ p. p.number) was ∙ c.requires.root) other.1 other.2 idle_other,
+          pass.lives pass.knows idle (ap (λ p. p.number) was ∙ c.requires.root) other.lives other.knows idle_other,
     )
 
 pub load-requires : goal.load-requires
@@ -35,6 +35,6 @@ load-requires g c =
       c.join_seat.ensures.0 ∙ ap (λ p. p.turn) was ∙ c.requires.of.0 ∙ ap (λ t. t.turn) (sym c.self.view_is),
       omega arith,
       learns g.V.Kept.entries g.V.Kept.label (g.V.Kept.label table.key.value) table.table_id.slots seat.id seat.me.0
-          (ap (λ m. m.0.lives) me ∙ pass.1) (ap (λ m. m.0.knows) me ∙ pass.2) (ap (λ m. m.0.holds) me ∙ ap (λ p. p.holds) was ∙ c.requires.idle)
+          (ap (λ m. m.0.lives) me ∙ pass.lives) (ap (λ m. m.0.knows) me ∙ pass.knows) (ap (λ m. m.0.holds) me ∙ ap (λ p. p.holds) was ∙ c.requires.idle)
           seat.me.1 (ap (λ m. m.0.keeps) me),
     )

@@ -12,7 +12,7 @@ unwrap-requires g c =
     let table = c.self.inside.table.shared in
     let closed =
     closes g.V.Kept.entries g.V.Kept.label (g.V.Kept.label table.key.value) seat.id seat.me.0 _ _ c.take-value.result c.close_with-closed.ensures.values.2
-    pass.1 pass.2 (ap (λ p. p.holds) was ∙ c.requires.idle) (ap (λ p. p.number) was ∙ c.requires.root)
+    pass.lives pass.knows (ap (λ p. p.holds) was ∙ c.requires.idle) (ap (λ p. p.number) was ∙ c.requires.root)
     (subst (λ p. (n : ℕ) → has n p.given ≡ true → has n p.absorbed ≡ true) (sym was) c.requires.back) c.take-value.ensures.value in
     subst IsSome (sym closed.is) refl
 
@@ -24,7 +24,7 @@ returns g c =
     let table = c.self.inside.table.shared in
     let closed =
     closes g.V.Kept.entries g.V.Kept.label (g.V.Kept.label table.key.value) seat.id seat.me.0 _ _ c.take-value.result c.close_with-closed.ensures.values.2
-    pass.1 pass.2 (ap (λ p. p.holds) was ∙ c.requires.idle) (ap (λ p. p.number) was ∙ c.requires.root)
+    pass.lives pass.knows (ap (λ p. p.holds) was ∙ c.requires.idle) (ap (λ p. p.number) was ∙ c.requires.root)
     (subst (λ p. (n : ℕ) → has n p.given ≡ true → has n p.absorbed ≡ true) (sym was) c.requires.back) c.take-value.ensures.value in
     let is = closed.is in
     let some_result = c.unwrap.ensures in

@@ -12,7 +12,7 @@ split_seat-note-requires g c =
     let wide = c.self.invariant.0 in (
       ap (λ p. p.turn) was ∙ c.requires.of_other.0 ∙ ap (λ t. t.turn) (sym c.self.view_is),
       omega arith,
-      tells g.V.Kept.entries g.V.Kept.label (g.V.Kept.label table.key.value) seat.id seat.me.0 other.1 other.2 (ap (λ p. p.holds) was ∙ c.requires.idle_other),
+      tells g.V.Kept.entries g.V.Kept.label (g.V.Kept.label table.key.value) seat.id seat.me.0 other.lives other.knows (ap (λ p. p.holds) was ∙ c.requires.idle_other),
     )
 
 pub join_seat-requires : goal.join_seat-requires
@@ -32,7 +32,7 @@ join_seat-requires g c =
       ap (λ m. m.1) me,
       omega arith,
       meets g.V.Kept.entries g.V.Kept.label (g.V.Kept.label table.key.value) seat.id note.id seat.me.0 note.me.0
-          pass.1 pass.2 (ap (λ p. p.holds) was ∙ c.requires.idle) (ap (λ m. m.0.lives) me) (ap (λ m. m.0.knows) me ∙ other.2) (ap (λ m. m.0.holds) me),
+          pass.lives pass.knows (ap (λ p. p.holds) was ∙ c.requires.idle) (ap (λ m. m.0.lives) me) (ap (λ m. m.0.knows) me ∙ other.knows) (ap (λ m. m.0.holds) me),
     )
 
 pub load-requires : goal.load-requires
@@ -46,6 +46,6 @@ load-requires g c =
       c.join_seat.ensures.0 ∙ ap (λ p. p.turn) was ∙ c.requires.of.0 ∙ ap (λ t. t.turn) (sym c.self.view_is),
       omega arith,
       learns g.V.Kept.entries g.V.Kept.label (g.V.Kept.label table.key.value) table.table_id.slots seat.id seat.me.0
-          (ap (λ m. m.0.lives) me ∙ pass.1) (ap (λ m. m.0.knows) me ∙ pass.2) (ap (λ m. m.0.holds) me ∙ ap (λ p. p.holds) was ∙ c.requires.idle)
+          (ap (λ m. m.0.lives) me ∙ pass.lives) (ap (λ m. m.0.knows) me ∙ pass.knows) (ap (λ m. m.0.holds) me ∙ ap (λ p. p.holds) was ∙ c.requires.idle)
           seat.me.1 (ap (λ m. m.0.keeps) me),
     )

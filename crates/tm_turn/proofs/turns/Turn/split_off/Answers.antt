@@ -13,8 +13,8 @@ load-requires g c =
     let wide = c.self.invariant.0 in (
       ap (λ p. p.turn) was ∙ c.requires.of.0 ∙ ap (λ t. t.turn) (sym c.self.view_is),
       omega arith,
-      looks g.V.Kept.entries g.V.Kept.label (g.V.Kept.label table.key.value) table.table_id.slots seat.id seat.me.0 pass.1 pass.2
-          (ap (λ p. p.holds) was ∙ c.requires.idle) seat.me.1 pass.3 (ap (λ p. p.number) was ∙ c.requires.root),
+      looks g.V.Kept.entries g.V.Kept.label (g.V.Kept.label table.key.value) table.table_id.slots seat.id seat.me.0 pass.lives pass.knows
+          (ap (λ p. p.holds) was ∙ c.requires.idle) seat.me.1 pass.keeps_none (ap (λ p. p.number) was ∙ c.requires.root),
     )
 
 pub split_seat-seat-requires : goal.split_seat-seat-requires
@@ -30,7 +30,7 @@ split_seat-seat-requires g c =
       c.load.ensures.0 ∙ ap (λ p. p.turn) was ∙ c.requires.of.0 ∙ ap (λ t. t.turn) (sym c.self.view_is),
       omega arith,
       splits g.V.Kept.entries g.V.Kept.label (g.V.Kept.label table.key.value) c.load.new.seat.id n c.load.new.seat.me.0
-          (ap (λ m. m.0.lives) me ∙ pass.1) (ap (λ m. m.0.knows) me ∙ pass.2) (ap (λ m. m.0.keeps) me ∙ pass.3)
+          (ap (λ m. m.0.lives) me ∙ pass.lives) (ap (λ m. m.0.knows) me ∙ pass.knows) (ap (λ m. m.0.keeps) me ∙ pass.keeps_none)
           (ap (λ m. m.0.holds) me ∙ ap (λ p. p.holds) was ∙ c.requires.idle) (ap (λ m. m.0.number) me ∙ ap (λ p. p.number) was ∙ c.requires.root)
           some_number small (ap (λ m. has n m.0.given) me ∙ ap (λ p. has n p.given) was ∙ c.requires.unused),
     )

@@ -14,8 +14,8 @@ compare_exchange-found-requires g c =
     let idle = ap (λ p. p.holds) was ∙ c.requires.idle in (
       ap (λ p. p.turn) was ∙ c.requires.of.0 ∙ ap (λ t. t.turn) (sym c.self.view_is),
       omega arith,
-      tries g.V.Kept.entries g.V.Kept.label (g.V.Kept.label table.key.value) table.table_id.slots seat.id seat.me.0 pass.1 pass.2 pass.3 idle
-          (c.from-word.result + 1) (add-one c.from-word.result ∙ ap suc (c.from-word.ensures ∙ sym pass.0)) seat.me.1 (pass.4 idle),
+      tries g.V.Kept.entries g.V.Kept.label (g.V.Kept.label table.key.value) table.table_id.slots seat.id seat.me.0 pass.lives pass.knows pass.keeps_none idle
+          (c.from-word.result + 1) (add-one c.from-word.result ∙ ap suc (c.from-word.ensures ∙ sym pass.same_number)) seat.me.1 (pass.without idle),
     )
 
 pub exchange-requires : goal.exchange-requires
