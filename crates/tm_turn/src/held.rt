@@ -6,7 +6,8 @@ ghost use Rattle.tm_turn.specs.contracts.held.Held.{the_row};
 use crate::passes::Pass;
 use std::snapshot::Snapshot;
 
-/// The turn's value, while a pass holds the turn. It can't be dropped: it is spent by `give`.
+/// The turn's value, while a pass holds the turn. It can't be dropped: it is spent by `give`. Contracts
+/// see the value, and which pass took it.
 pub struct Held<V> {
     /// The value.
     pub value: V,

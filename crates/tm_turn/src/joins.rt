@@ -10,7 +10,7 @@ use std::marker::Brand;
 use tm_base::Kept;
 
 impl<V: Kept> Turn<V> {
-    /// A new pass with this number, which has seen what pass 0 has seen. None of it is its own.
+    /// Pass 0 gives the number to a new pass, which has seen what pass 0 has. None of it is its own.
     pub fn split(&self, pass: &mut Pass<V>, number: u32) -> Pass<V>
         requires of { IsPassOf self.now pass.old }
         requires idle { pass.old.holds ≡ false }
@@ -42,8 +42,8 @@ impl<V: Kept> Turn<V> {
         Pass { number, seat }
     }
 
-    /// Pass 0 takes in what another pass has seen, and absorbs its number. The longer history is the one
-    /// that both have seen.
+    /// Pass 0 takes in what another pass has seen, and absorbs its number. It has then seen the longer of
+    /// both lists, which begins with both, with all events of that pass.
     pub fn absorb(&self, pass: &mut Pass<V>, other: Pass<V>)
         requires of { IsPassOf self.now pass.old }
         requires of_other { IsPassOf self.now other }
@@ -64,8 +64,8 @@ impl<V: Kept> Turn<V> {
         shared.load::<LearnAfter>(&mut pass.seat, HOLDER);
     }
 
-    /// A pass takes in what another has seen, which stays as it is. The longer history is the one that
-    /// both have seen.
+    /// A pass takes in what another has seen, which stays as it is. It has then seen the longer of both
+    /// lists, which begins with both.
     pub fn meet(&self, pass: &mut Pass<V>, other: &mut Pass<V>)
         requires of { IsPassOf self.now pass.old }
         requires of_other { IsPassOf self.now other.old }
@@ -83,8 +83,8 @@ impl<V: Kept> Turn<V> {
         shared.load::<LearnAfter>(&mut pass.seat, HOLDER);
     }
 
-    /// Ends the turn, and hands the value back, whose list is what pass 0 has seen. Each of its events is
-    /// pass 0's own, or of a number that was absorbed.
+    /// Ends the turn once pass 0 has absorbed every number that it gave, and hands the value back. Its list
+    /// is what pass 0 has seen, and each of its events is pass 0's own or of a number that was absorbed.
     pub fn close(self, pass: Pass<V>) -> V
         requires of { IsPassOf self pass }
         requires idle { pass.holds ≡ false }

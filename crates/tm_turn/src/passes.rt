@@ -6,7 +6,8 @@ use std::marker::Model;
 
 /// What one thread has seen of a turn's history. Contracts see its number, the events that it has seen,
 /// the numbers that were split from it and those that it absorbed, whether it holds the turn, and how
-/// often it won and lost the turn. But for the number all of this stands in proofs alone.
+/// often it won and lost the turn. But for the number all of this stands in proofs alone, as the
+/// auxiliary variables of Owicki and Gries do (1976).
 #[derive(Drop)]
 pub struct Pass<V> {
     pub(crate) number: u32,

@@ -23,8 +23,9 @@ const COUNT: usize = 1;
 /// The slot that has the value, or nothing while a pass holds the turn.
 pub(crate) const VALUE: usize = 0;
 
-/// The turn of a value that threads share. One pass at a time holds it, and with it the value.
-/// Contracts see which turn it is, and the label of its value, which stays for good.
+/// The turn of a value that threads share. One pass at a time holds it, and with it the value, by a
+/// compare-exchange on one word. Contracts see which turn it is, and the label of the value that it was
+/// made with, which stays for good.
 #[derive(Drop)]
 pub struct Turn<V: Kept> {
     pub(crate) table: Table<Option<V>, LocalView, Snapshot<V>, TurnRule, Global>,
@@ -65,8 +66,9 @@ impl<V: Kept + Drop> Turn<V> {
 }
 
 impl<V: Kept> Turn<V> {
-    /// Tries once to take the turn, without waiting. `Busy` only where this call lost the turn to the
-    /// pass that it names; then the pass is unchanged but for its marks.
+    /// Tries once to take the turn, without waiting. Who takes it has seen the whole history, which is the
+    /// value's list. `Busy` only where this call lost the turn to the pass that it names; then the pass is
+    /// unchanged but for its marks.
     pub fn try_take(&self, pass: &mut Pass<V>) -> Result<Held<V>, Busy>
         requires of { IsPassOf self.now pass.old }
         requires idle { pass.old.holds ≡ false }
@@ -92,7 +94,7 @@ impl<V: Kept> Turn<V> {
         Ok(Held { value, from })
     }
 
-    /// Takes the turn, and waits until nobody else holds it.
+    /// Takes the turn as `try_take` does, and tries until it holds it. That it ever does isn't promised.
     pub fn take<R: Wait>(&self, rt: &R, pass: &mut Pass<V>) -> Held<V>
         requires of { IsPassOf self.now pass.old }
         requires idle { pass.old.holds ≡ false }
@@ -113,8 +115,9 @@ impl<V: Kept> Turn<V> {
         unreachable!()
     }
 
-    /// Notes the event that the holder made, which stands at the end of the value's list. This is the
-    /// step that makes it an event of the history.
+    /// Notes the event that the holder made, which stands at the end of the value's list. The one
+    /// `fetch_add` makes it an event of the history: this is its linearization point, as Herlihy and Wing
+    /// call it (TOPLAS 1990).
     pub fn note(&self, pass: &mut Pass<V>, held: &mut Held<V>, entry: &Entry)
         requires of { IsPassOf self.now pass.old }
         requires from { IsHeldBy pass.old held.old.from.value }
@@ -142,7 +145,7 @@ impl<V: Kept> Turn<V> {
         shared.fetch_add::<NoteEntry<E>>(&mut pass.seat, COUNT, 1);
     }
 
-    /// Gives the turn back, with the value.
+    /// Gives the turn back, with the value, whose list is what the pass has seen.
     pub fn give(&self, pass: &mut Pass<V>, held: Held<V>)
         requires of { IsPassOf self.now pass.old }
         requires from { IsHeldBy pass.old held.from.value }

@@ -18,8 +18,8 @@ impl Model for ObjectLabel {
     ghost view = { λ l. record { object = l.object; kind = l.kind; threads = l.threads } };
 }
 
-/// What a seat at a turn's table knows. No value of it is made: it stands in proofs alone, and costs
-/// nothing.
+/// What a seat at a turn's table knows, its local view. No value of it is made: it stands in proofs
+/// alone, and costs nothing.
 pub struct LocalView {
     /// The label of the turn.
     pub label: ObjectLabel,
