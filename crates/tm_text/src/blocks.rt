@@ -3,7 +3,7 @@ ghost use Rattle.std.specs.List.{list_all};
 ghost use Rattle.tm_text.specs.Reading.{Fails, Gives, are_short, is_short, call_of, mutex_from, programs_of, spelled_after};
 
 use crate::exercises::Declaration;
-use crate::limits::{MOST_OBJECTS, MOST_INSTRUCTIONS};
+use crate::limits::{MOST_INSTRUCTIONS, MOST_OBJECTS};
 use crate::no_exercises::NoExercise;
 use crate::parsed_lines::ParsedLine;
 use std::alloc::Global;

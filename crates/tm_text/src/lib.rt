@@ -14,7 +14,7 @@ mod scripts;
 
 pub use exercises::{Declaration, Exercise};
 pub use laws::{calls_fit, programs_are_nested};
-pub use limits::{MOST_BYTES, MOST_OBJECTS, MOST_INSTRUCTIONS};
+pub use limits::{MOST_BYTES, MOST_INSTRUCTIONS, MOST_OBJECTS};
 pub use no_exercises::NoExercise;
 pub use reader::{one_exercise, read};
 pub use scripts::Script;

@@ -88,8 +88,8 @@ fn blanks_comments_and_carriage_returns_are_taken(rt: HostRuntime) -> Result<(),
     Ok(())
 }
 
-/// A text of a thread with this many statements.
-fn long(alloc: Global, statements: usize) -> Result<String, Fail> {
+/// A text of a thread with this many instructions.
+fn long(alloc: Global, instructions: usize) -> Result<String, Fail> {
     let mut text = String::from_str(alloc, "mutex m\nthread A\n")?;
     for _ in 0..instructions {
         text.push_str("lock m\n")?;
@@ -99,7 +99,7 @@ fn long(alloc: Global, statements: usize) -> Result<String, Fail> {
 }
 
 #[test]
-fn a_program_has_4096_statements_at_most(rt: HostRuntime) -> Result<(), Fail> {
+fn a_program_has_4096_instructions_at_most(rt: HostRuntime) -> Result<(), Fail> {
     let text = long(rt.alloc(), 4096)?;
     assert!(rt; takes(rt.alloc(), text.as_bytes())?);
     let text = long(rt.alloc(), 4097)?;
