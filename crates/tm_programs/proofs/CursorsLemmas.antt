@@ -92,8 +92,8 @@ module _ (items : List Instruction) where
 
   -- what is left in a block that is gone into
   entered-left : (c : Cursor) (body : ℕ) (block : OpenBlock)
-      → program_left items (entered body block c) ≡ followed (program_at items body)
-      (after_block items block (after c))
+      → program_left items (entered body block c)
+      ≡ followed (program_at items body) (after_block items block (after c))
   entered-left c body block =
       ap (followed (program_at items body)) (after_blocks-snoc items Over c.blocks.items block)
 
@@ -112,8 +112,8 @@ module _ (items : List Instruction) where
 
   -- the first of so many turns of a body, or what follows the last
   repeated-steps : (old c : Cursor) (turns body next : ℕ)
-      → program_left items old ≡ Repeat turns (program_at items body)
-      (followed (program_at items next) (after c))
+      → program_left items old
+      ≡ Repeat turns (program_at items body) (followed (program_at items next) (after c))
       → old.registers ≡ c.registers → length c.blocks.items ≤ length old.blocks.items
       → BlocksFit items 0 c.blocks.items
       → BlockFits items (length c.blocks.items) (open_block.Turns turns body next)
@@ -137,8 +137,8 @@ module _ (items : List Instruction) where
   module _ (c : Cursor) (exit : ℕ) (stands : Stands items c) where
     -- the program at a block that opens, and what follows it
     opened-left : (block : Program → Program → Program) → Opened items c.place exit block
-        → program_left items c ≡ followed (block (program_at items (suc c.place)) (program_at items exit))
-        (after c)
+        → program_left items c
+        ≡ followed (block (program_at items (suc c.place)) (program_at items exit)) (after c)
     opened-left block opened = ap (λ (p : Program). followed p (after c)) opened.whole
 
     pub repeat-steps : (turns : ℕ) → Opened items c.place exit (Repeat turns)
@@ -236,8 +236,8 @@ module _ (items : List Instruction) where
   end-open c here stands =
       let e : length (programs_at items c.place) ≡ suc (length (programs_at items (suc c.place))) =
       ap (λ (xs : List Instruction). length (programs_of xs)) (drop-get items c.place _ here) in
-      let f : length (programs_at items (suc c.place)) ≡ suc
-      (length (rest_of (programs_at items (suc c.place)))) =
+      let others = programs_at items (suc c.place) in
+      let f : length others ≡ suc (length (rest_of others)) =
       ap length (programs_of-whole (drop (suc c.place) items)) in
       omega (arith, stands.depth)
 

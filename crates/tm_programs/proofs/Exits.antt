@@ -193,9 +193,8 @@ module _ (items : List Instruction) where
     pub known-none : (i : Instruction) → IsNested items → slice_get items place ≡ Some i → Opens i
         → Known [] exits (suc place) → ⊥
     known-none i nested here opens known =
-        let k =
-        Chain-length [] [] (suc place) known.chain in omega
-        (arith, opens-deep items nested place i here opens)
+        let k = Chain-length [] [] (suc place) known.chain in
+        omega (arith, opens-deep items nested place i here opens)
 
 -- a `while` or an `if`
 abbrev pub IsTest : (ℕ → Comparison → ℤ → Instruction) → Instruction → Type 0
@@ -215,8 +214,7 @@ NoTest one i = (register : ℕ) (how : Comparison) (value : ℤ) → i ≡ one r
 
 -- none of them
 pub opens-none : (i : Instruction) → ((turns : ℕ) → i ≡ instruction.Repeat turns → ⊥)
-    → NoTest instruction.While i
-    → NoTest instruction.If i → Opens i → ⊥
+    → NoTest instruction.While i → NoTest instruction.If i → Opens i → ⊥
 opens-none (instruction.Repeat turns) repeats whiles ifs opens = repeats turns refl
 opens-none (instruction.While register how value) repeats whiles ifs opens = whiles register how value refl
 opens-none (instruction.If register how value) repeats whiles ifs opens = ifs register how value refl

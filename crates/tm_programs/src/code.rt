@@ -30,6 +30,7 @@ impl Model for Code {
 }
 
 impl Code {
+    /// These instructions, which are nested.
     pub(crate) fn make(alloc: Global, instructions: &[Instruction]) -> Result<Code, NoMemory>
         requires { IsNested instructions.now }
         ensures { IfOk result (λ code. code ≡ instructions.now) }
@@ -53,6 +54,7 @@ impl Code {
         }
     }
 
+    /// The instruction at the place, where there is one.
     pub(crate) fn at(&self, place: usize) -> Option<Instruction>
         ensures value { result ≡ slice_get self.now place }
         ensures small { IfSome result (λ _. place < 2 ^ 63) }

@@ -36,6 +36,7 @@ pub(crate) struct Cursor {
 }
 
 impl Cursor {
+    /// At the first instruction, with no open block.
     pub(crate) fn new() -> Cursor
         ensures place { result.place ≡ 0 }
         ensures registers { result.registers ≡ first_registers }

@@ -22,18 +22,21 @@ impl Model for Registers {
 }
 
 impl Registers {
+    /// All registers at 0.
     pub(crate) fn new() -> Registers
         ensures { result ≡ first_registers }
     {
         Registers { values: [0; 8] }
     }
 
+    /// What the register holds.
     pub(crate) fn get(&self, register: u8) -> i64
         ensures { result ≡ register_of self.now register }
     {
         self.values.get(register as usize).copied().unwrap_or(0)
     }
 
+    /// Writes the register.
     pub(crate) fn set(&mut self, register: u8, value: i64)
         ensures { self.new ≡ slice_set self.old register value }
     {
