@@ -1,0 +1,9 @@
+mod ChecksLemmas
+mod FirstWordsLemmas
+mod LineFaultsLemmas
+mod LinesLemmas
+mod NamesLemmas
+mod NumeralsLemmas
+mod PlacesLemmas
+mod SpellingsLemmas
+mod WordsLemmas

@@ -1,0 +1,12 @@
+pub mod Lines
+pub mod Numerals
+pub mod FirstWords
+pub mod NamedLines
+pub mod LineFaults
+pub mod TextFaults
+pub mod Places
+pub mod Found
+pub mod Saying
+pub mod Checks
+pub mod FaultWords
+pub mod Spellings

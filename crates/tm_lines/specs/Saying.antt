@@ -1,0 +1,18 @@
+-- What the reader of lines says of a line without a fault.
+use Rattle.std.specs.Prelude.{◌≡◌, ℕ, false, ◌&&◌, nat_le, List, drop, length, Some}
+use Rattle.tm_programs.specs.declared.limits.TheConstants.{MOST_BLOCKS}
+use Rattle.tm_lines.specs.declared.first_words.FirstWord.{FirstWord}
+use Rattle.tm_lines.specs.declared.saying.Said.{Said}
+use Rattle.tm_lines.specs.FirstWords.{first_word_of}
+use Rattle.tm_lines.specs.LineFaults.{Place, is_beyond, opens}
+use Rattle.tm_lines.specs.Lines.{words_of}
+use Rattle.tm_lines.specs.NamedLines.{word_at}
+
+-- The words are the first word, spelled, and those of the rest.
+abbrev pub IsSaid : Said → List (List ℕ) → Type 0
+IsSaid said ws = (first_word_of (word_at 0 ws) ≡ Some said.first) × (words_of said.rest.now ≡ drop 1 ws)
+
+-- There may be one more block, object, thread or instruction, where a line with this first word makes one.
+pub record HasRoom (p : Place) (f : FirstWord) : Type 0 where
+  pub blocks : (opens f && nat_le MOST_BLOCKS (length p.blocks)) ≡ false
+  pub others : is_beyond p f ≡ false

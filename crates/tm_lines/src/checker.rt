@@ -1,0 +1,117 @@
+ghost use Rattle.std.specs.Prelude.{◌≡◌, false, true, IfOk};
+ghost use Rattle.tm_lines.specs.Checks.{Follows, before, fault_left, is_empty};
+ghost use Rattle.tm_lines.specs.TextFaults.{first_fault};
+
+use crate::faults::{Fault, TextFault};
+use crate::limits::MOST_BYTES;
+use crate::lines::{first_line, without_cr};
+use crate::names::Names;
+use crate::places::Place;
+use crate::saying::Line;
+use std::alloc::Global;
+use std::marker::Model;
+use tm_base::NoMemory;
+
+/// A text whose lines are looked at one after the other.
+#[derive(Drop)]
+pub struct Checker<'a> {
+    names: Names<'a>,
+    number: u64,
+    place: Place<'a>,
+    rest: &'a [u8],
+}
+
+impl<'a> Model for Checker<'a> {
+    ghost use Rattle.std.specs.Prelude.{◌+◌, ◌<◌, ◌^◌, length};
+    ghost use Rattle.tm_lines.specs.Checks.{Check};
+
+    ghost Value = { Check };
+
+    ghost view = { λ a. record { text = a.names; number = a.number; place = a.place; rest = a.rest.now } };
+
+    ghost invariant = { λ a. a.number + length a.rest.now < 2 ^ 64 };
+}
+
+impl<'a> Checker<'a> {
+    /// Before the first line of the text, whose names are noted. Only this takes memory.
+    pub fn of_text(alloc: Global, text: &'a [u8]) -> Result<Checker<'a>, NoMemory>
+        ensures { IfOk result (λ checker. checker ≡ before text.now) }
+    {
+        let names = Names::of_text(alloc, text)?;
+        Ok(Checker {
+            names,
+            number: 1,
+            place: Place::new(),
+            rest: text,
+        })
+    }
+
+    /// The names of the text.
+    pub fn names(&self) -> &Names<'a>
+        ensures { result.now ≡ self.now.text }
+    {
+        &self.names
+    }
+
+    /// Whether each line was looked at.
+    pub fn is_done(&self) -> bool
+        ensures { result ≡ is_empty self.now.rest }
+    {
+        self.rest.is_empty()
+    }
+
+    /// Looks at the next line.
+    pub fn next_line(&mut self) -> Line<'a>
+        requires { is_empty self.old.rest ≡ false }
+        ensures { Follows self.old result self.new }
+    {
+        let (line, rest) = first_line(self.rest);
+        let number = self.number;
+        self.rest = rest;
+        self.number += 1;
+        self.place.take(&self.names, number, without_cr(line))
+    }
+
+    /// The first fault of the lines that are left, and of the end.
+    pub fn fault_left(&mut self) -> Option<TextFault>
+        ensures { result ≡ fault_left self.old }
+    {
+        while !self.is_done() {
+            match self.next_line() {
+                Line::Ignored => {}
+                Line::Said(_) => {}
+                Line::Faulty(fault) => return Some(fault),
+            }
+        }
+        self.at_end()
+    }
+
+    /// What is wrong after the last line.
+    pub fn at_end(&self) -> Option<TextFault>
+        requires { is_empty self.now.rest ≡ true }
+        ensures { result ≡ fault_left self.now }
+    {
+        if self.place.is_inside() {
+            Some(TextFault {
+                line: self.number,
+                kind: Fault::NotEnded,
+            })
+        } else {
+            None
+        }
+    }
+}
+
+/// The first faulty line of the text, with what is wrong with it; the line is 0 where the text is too long.
+pub fn first_fault(alloc: Global, text: &[u8]) -> Result<Option<TextFault>, NoMemory>
+    ensures { IfOk result (λ fault. fault ≡ first_fault text.now) }
+{
+    if MOST_BYTES < text.len() {
+        return Ok(Some(TextFault {
+            line: 0,
+            kind: Fault::Size,
+        }));
+    }
+    let mut checker = Checker::of_text(alloc, text)?;
+    Ok(checker.fault_left())
+}

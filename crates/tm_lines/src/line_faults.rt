@@ -1,0 +1,191 @@
+ghost use Rattle.std.specs.Prelude.{◌≡◌, ℕ, ◌+◌, ◌^◌, ◌<◌, ◌∷◌, ◌&&◌, false, drop, length, nat_le, List, Some, None, IfNone, MatchResult};
+ghost use Rattle.std.specs.List.{find};
+ghost use Rattle.tm_lines.specs.FirstWords.{first_word_of, slots_of};
+ghost use Rattle.tm_lines.specs.Found.{applies_by, block_fault, found_by, name_fault};
+ghost use Rattle.tm_lines.specs.LineFaults.{fault_of_line, fault_of_words, is_beyond, opens, place_by, word_faults};
+ghost use Rattle.tm_lines.specs.Lines.{words_of};
+ghost use Rattle.tm_lines.specs.NamedLines.{word_at};
+ghost use Rattle.tm_lines.specs.TextFaults.{named_in, text_lines};
+ghost use Rattle.tm_lines.specs.Checks.{IsLine};
+ghost use Rattle.tm_lines.specs.Saying.{HasRoom};
+
+use crate::faults::{Fault, TextFault};
+use crate::first_words::FirstWord;
+use crate::found::Found;
+use crate::lines::{first_word, is_printed};
+use crate::names::Names;
+use crate::places::Place;
+use crate::saying::{Line, Said};
+use crate::slots::found_in;
+use crate::words::next_word;
+use tm_base::Kind;
+
+/// What is wrong with a line that isn't ignored and stands at this place, where the text has these names.
+pub fn fault_of_line(names: &Names, place: &Place, line: &[u8]) -> Option<Fault>
+    ensures { result ≡ fault_of_line (named_in (text_lines names.now)) place.now line.now }
+{
+    if !is_printed(line) {
+        return Some(Fault::Byte);
+    }
+    match first_word(line) {
+        None => Some(Fault::Word),
+        Some((word, rest)) => {
+            let (second, _) = next_word(rest);
+            match judge(names, place, line, word, second, rest) {
+                Ok(_) => None,
+                Err(fault) => Some(fault),
+            }
+        }
+    }
+}
+
+impl<'a> Place<'a> {
+    /// Takes the line with this number, and goes on to the place after it, unless it has a fault.
+    pub fn take(&mut self, names: &Names, number: u64, line: &'a [u8]) -> Line<'a>
+        ensures { IsLine (named_in (text_lines names.now)) number self.old line.now result self.new }
+    {
+        match first_word(line) {
+            None => Line::Ignored,
+            Some((word, rest)) => {
+                if matches!(word, [b'#', ..]) {
+                    return Line::Ignored;
+                }
+                let (second, _) = next_word(rest);
+                match judge(names, self, line, word, second, rest) {
+                    Ok(first) => {
+                        self.go_on(first, second);
+                        Line::Said(Said { first, rest })
+                    }
+                    Err(kind) => Line::Faulty(TextFault { line: number, kind }),
+                }
+            }
+        }
+    }
+}
+
+/// The first word of the line, or what is wrong with the line. It begins with this word and goes on with the
+/// rest, which begins with the second.
+fn judge(
+    names: &Names,
+    place: &Place,
+    line: &[u8],
+    word: &[u8],
+    second: &[u8],
+    rest: &[u8],
+) -> Result<FirstWord, Fault>
+    requires words { words_of line.now ≡ word.now ∷ words_of rest.now }
+    requires second { second.now ≡ word_at 0 (words_of rest.now) }
+    ensures said { MatchResult result
+        (λ first. (fault_of_line (named_in (text_lines names.now)) place.now line.now ≡ None)
+        × (first_word_of word.now ≡ Some first))
+        (λ fault. fault_of_line (named_in (text_lines names.now)) place.now line.now ≡ Some fault) }
+    ensures room { MatchResult result (λ first. HasRoom place.now first) (λ _. Unit {0}) }
+{
+    if !is_printed(line) {
+        return Err(Fault::Byte);
+    }
+    match FirstWord::of_word(word) {
+        None => Err(Fault::Word),
+        Some(first) => match fault_of_words(place, first, names.kind(second), rest) {
+            None => Ok(first),
+            Some(fault) => Err(fault),
+        },
+    }
+}
+
+/// What is wrong with the words of a line that begins with this first word, and goes on so, where the object
+/// that it names has this kind.
+fn fault_of_words(place: &Place, first: FirstWord, kind: Option<Kind>, rest: &[u8]) -> Option<Fault>
+    ensures fault { (w : List ℕ) →
+        result ≡ fault_of_words place.now kind (w ∷ words_of rest.now) (Some first) }
+    ensures room { IfNone result (HasRoom place.now first) }
+{
+    let (found, words) = found_by(place, first, kind, rest);
+    fault_found(place, first, found, 1 + words)
+}
+
+/// The first kind of fault that applies to so many words in which these were found.
+fn fault_found(place: &Place, first: FirstWord, found: Found, words: usize) -> Option<Fault>
+    ensures fault { result ≡ find (applies_by place.now first found words) word_faults }
+    ensures room { IfNone result (HasRoom place.now first) }
+{
+    if !first.is_allowed(place.is_inside()) || found.word {
+        return Some(Fault::Word);
+    }
+    if !first.has_count(words) {
+        return Some(Fault::Count);
+    }
+    match name_fault(found) {
+        Some(fault) => Some(fault),
+        None => block_fault(place, first),
+    }
+}
+
+/// The first kind of fault of those that were found in names, numbers and registers.
+fn name_fault(found: Found) -> Option<Fault>
+    ensures { result ≡ name_fault found }
+{
+    if found.name {
+        Some(Fault::Name)
+    } else if found.unknown {
+        Some(Fault::Unknown)
+    } else if found.kind {
+        Some(Fault::Kind)
+    } else if found.number {
+        Some(Fault::Number)
+    } else if found.register {
+        Some(Fault::Register)
+    } else {
+        None
+    }
+}
+
+/// The first kind of fault that a line with this first word has by its place alone.
+fn block_fault(place: &Place, first: FirstWord) -> Option<Fault>
+    ensures fault { result ≡ block_fault place.now first }
+    ensures room { IfNone result (HasRoom place.now first) }
+{
+    if first.opens() && place.is_deep() {
+        Some(Fault::Depth)
+    } else if place.ends_idle(first) {
+        Some(Fault::Idle)
+    } else if place.is_beyond(first) {
+        Some(Fault::Limit)
+    } else {
+        None
+    }
+}
+
+/// What the words of the line break in the slots after this first word, and how many there are.
+fn found_by(place: &Place, first: FirstWord, kind: Option<Kind>, line: &[u8]) -> (Found, usize)
+    ensures found { result.0 ≡ found_by place.now first kind (slots_of first) (words_of line.now) }
+    ensures words { result.1 ≡ length (words_of line.now) }
+    ensures short { result.1 < 2 ^ 63 }
+{
+    let mut found = Found::NOTHING;
+    let mut rest = line;
+    let slots = first.slots();
+    for (i, slot) in slots.iter().enumerate() {
+        match first_word(rest) {
+            None => return (found, i),
+            Some((word, next)) => {
+                found = found.or(found_in(place, first, kind, *slot, word));
+                rest = next;
+            }
+        }
+    }
+    (found, slots.len() + word_count(rest))
+}
+
+/// How many words the line has.
+fn word_count(line: &[u8]) -> usize
+    ensures { result ≡ length (words_of line.now) }
+{
+    let mut count = 0usize;
+    let mut rest = line;
+    while let Some((_, next)) = first_word(rest) {
+        count += 1;
+        rest = next;
+    }
+    count
+}

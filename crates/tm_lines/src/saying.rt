@@ -1,0 +1,19 @@
+use crate::faults::TextFault;
+use crate::first_words::FirstWord;
+
+/// What a line says that has no fault: its first word, and what follows it.
+#[derive(Clone, Copy, Debug)]
+pub struct Said<'a> {
+    pub first: FirstWord,
+    pub rest: &'a [u8],
+}
+
+/// What one line of a text is.
+#[derive(Clone, Copy, Debug)]
+pub enum Line<'a> {
+    Ignored,
+    /// It has no fault, and says this.
+    Said(Said<'a>),
+    /// It has this fault.
+    Faulty(TextFault),
+}
