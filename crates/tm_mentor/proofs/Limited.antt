@@ -1,5 +1,5 @@
 -- Words that spell a run set a limit that a run may have.
-use Rattle.std.proofs.Common.{ℕ, ◌≤◌, List, [], ◌∷◌, get_or, sym, subst, ap, arith}
+use Rattle.std.proofs.Common.{ℕ, ◌≤◌, List, [], ◌∷◌, get_or, sym, subst, arith}
 use Rattle.std.specs.Prelude.{String}
 use Rattle.std.specs.declared.alloc.Global.{Global}
 use Rattle.tm_session.specs.declared.rules.Rules.{Rules}
@@ -7,7 +7,7 @@ use Rattle.tm_session.specs.declared.rules.TheConstants.{MOST_CALLS}
 use Rattle.tm_mentor.specs.declared.settings.Setting.{Setting}
 use Rattle.tm_mentor.specs.declared.settings.Setting.TheVariants.{Schedule, Events}
 use Rattle.tm_mentor.specs.declared.settings.TheConstants.{USUAL_EVENTS}
-use Rattle.tm_mentor.specs.CommandLine.{AreSettings, SpellsRun, limits_of, rules_by}
+use Rattle.tm_mentor.specs.CommandLine.{AreSettings, SpellsRun, limits_of}
 
 limits-small : (words : List (List ℕ)) (ss : List Setting) → AreSettings words ss → get_or (limits_of ss) 0 USUAL_EVENTS ≤ MOST_CALLS
 limits-small words [] are = omega arith

@@ -1,14 +1,16 @@
 -- What a command found: an exercise to run, or why there is none.
-use Rattle.std.specs.Prelude.{◌≡◌, ℕ, ◌+◌, List, Option, IfSome, String}
+use Rattle.std.specs.Prelude.{◌≡◌, ℕ, ◌+◌, List, Option, Some, IfSome, String}
 use Rattle.std.specs.declared.alloc.Global.{Global}
 use Rattle.tm_outside.specs.Faults.{next_count}
 use Rattle.tm_outside.specs.Taking.{TakesAtMost, IsAtEnd}
 use Rattle.tm_text.specs.Exercises.{ExerciseView, IsWellFormed}
-use Rattle.tm_text.specs.Grammar.{IsExercise}
+use Rattle.tm_lines.specs.declared.faults.TextFault.{TextFault}
+use Rattle.tm_lines.specs.TextFaults.{first_fault}
+use Rattle.tm_text.specs.Texts.{IsExercise}
 use Rattle.tm_session.specs.declared.rules.Rules.{Rules}
 use Rattle.tm_mentor.specs.declared.refusals.Refusal.{Refusal}
 use Rattle.tm_mentor.specs.declared.refusals.Refusal.TheVariants.{Usage, Text, ReadFault}
-use Rattle.tm_text.specs.declared.limits.TheConstants.{MOST_BYTES}
+use Rattle.tm_lines.specs.declared.limits.TheConstants.{MOST_BYTES}
 use Rattle.tm_mentor.specs.declared.commands.Command.{Command}
 use Rattle.tm_mentor.specs.declared.commands.CommandError.{CommandError}
 use Rattle.tm_mentor.specs.declared.commands.CommandError.TheVariants.{Refused, NoMemory}
@@ -29,14 +31,13 @@ pub record IsUnspelled (words : List (String Global)) (old new : Input) : Type 0
   pub left : new.left ≡ old.left
   pub steady : new.faults ≡ old.faults
 
--- The source has no fault, and all the bytes that it had left, where it tells them, are the text of
--- no exercise.
-pub record HasNoExercise (words : List (String Global)) (old new : Input) : Type 0 where
+-- The source has no fault, and this is the first fault of all the bytes that it had left, where it tells them.
+pub record HasTextFault (words : List (String Global)) (old new : Input) (fault : TextFault) : Type 0 where
   pub rules : Rules
   pub spelled : SpellsRun words rules
   pub taken : ReadsAtMost old.left new.left
   pub steady : new.faults ≡ old.faults
-  pub none : IfSome old.left IsNoExercise
+  pub first : IfSome old.left (λ bytes. first_fault bytes ≡ Some fault)
 
 -- One read of the source failed, and no other did.
 pub record HasReadFault (words : List (String Global)) (old new : Input) : Type 0 where
@@ -48,7 +49,7 @@ pub record HasReadFault (words : List (String Global)) (old new : Input) : Type 
 -- Why nothing is run.
 abbrev pub IsCause : Refusal → List (String Global) → Input → Input → Type 0
 IsCause Usage words old new = IsUnspelled words old new
-IsCause Text words old new = HasNoExercise words old new
+IsCause (Text fault) words old new = HasTextFault words old new fault
 IsCause ReadFault words old new = HasReadFault words old new
 
 -- The words spell a run under these rules. The source was read to its end with no fault. The exercise is

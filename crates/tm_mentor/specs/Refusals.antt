@@ -1,16 +1,23 @@
 -- What a refusal says.
 use Rattle.std.specs.Prelude.{ℕ, List, [], ◌∷◌, ◌++◌, codes}
+use Rattle.std.specs.Fmt.{decimal}
+use Rattle.tm_lines.specs.declared.faults.TextFault.{TextFault}
+use Rattle.tm_lines.specs.FaultWords.{fault_word}
 use Rattle.tm_mentor.specs.declared.refusals.Refusal.{Refusal}
 use Rattle.tm_mentor.specs.declared.refusals.Refusal.TheVariants.{Usage, Text, ReadFault}
+
+-- The line of a text's first fault: the number of the line, and the word of what is wrong with it.
+abbrev pub fault_line : TextFault → List ℕ
+fault_line fault = codes "mentor: line " ++ decimal fault.line ++ codes ": " ++ fault_word fault.kind ++ 10 ∷ []
 
 -- Its line.
 abbrev pub line_of : Refusal → List ℕ
 line_of Usage = codes "mentor: usage" ++ 10 ∷ []
-line_of Text = codes "mentor: text" ++ 10 ∷ []
+line_of (Text fault) = fault_line fault
 line_of ReadFault = codes "mentor: read fault" ++ 10 ∷ []
 
 -- The status of a command that wrote the line.
 abbrev pub status_of : Refusal → ℕ
 status_of Usage = 2
-status_of Text = 3
+status_of (Text fault) = 3
 status_of ReadFault = 4

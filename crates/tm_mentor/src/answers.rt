@@ -1,14 +1,13 @@
 ghost use Rattle.std.specs.Prelude.{◌≡◌, ◌≤◌};
 ghost use Rattle.tm_mentor.specs.CommandLine.{SpellsNoRun};
-ghost use Rattle.tm_mentor.specs.Refusals.{line_of};
 ghost use Rattle.tm_mentor.specs.Outside.{input_of, output_of};
 ghost use Rattle.tm_mentor.specs.Found.{ReadsAtMost};
-ghost use Rattle.tm_mentor.specs.Outcomes.{Answers, Sends};
+ghost use Rattle.tm_mentor.specs.Outcomes.{Answers};
 
 use crate::commands::{Command, CommandError, read_command};
-use crate::refusals::{Refusal, line};
+use crate::refusals::{Refusal, send_line};
 use std::alloc::Global;
-use tm_outside::{Sink, Source, write_all};
+use tm_outside::{Sink, Source};
 use tm_session::{Finished, alone};
 
 /// How a command ended.
@@ -45,19 +44,13 @@ pub(crate) fn carry_out<S: Source, K: Sink>(
                 Err(_) => Answer::NoMemory,
             }
         }
-        Err(CommandError::Refused(refusal)) => Answer::Refused {
-            refusal,
-            write_fault: fails_at_line(refusal, sink),
+        Err(CommandError::Refused(refusal)) => match send_line(alloc, refusal, sink) {
+            Ok(write_fault) => Answer::Refused {
+                refusal,
+                write_fault,
+            },
+            Err(_) => Answer::NoMemory,
         },
         Err(CommandError::NoMemory) => Answer::NoMemory,
     }
-}
-
-/// Sends the refusal's line to the sink, and answers whether that failed.
-fn fails_at_line<K: Sink>(refusal: Refusal, sink: &mut K) -> bool
-    ensures sent { Sends result (output_of K.written K.fault_count sink.old)
-        (output_of K.written K.fault_count sink.new) (line_of refusal) }
-    ensures never_falls { K.fault_count sink.old ≤ K.fault_count sink.new }
-{
-    write_all(sink, line(refusal)).is_err()
 }

@@ -6,9 +6,10 @@ ghost use Rattle.tm_mentor.specs.Found.{HasCommand, IsCommandError, ReadsAtMost}
 use crate::command_line::spell_run;
 use crate::refusals::Refusal;
 use std::alloc::Global;
+use tm_lines::MOST_BYTES;
 use tm_outside::{ReadFault, Source, read_all};
 use tm_session::Rules;
-use tm_text::{Exercise, MOST_BYTES, NoExercise, read};
+use tm_text::{Exercise, TextFault, read};
 
 /// What a command is to run.
 #[derive(Debug, Drop)]
@@ -52,7 +53,9 @@ pub(crate) fn read_command<S: Source>(
     };
     match read(alloc, bytes.as_slice()) {
         Ok(exercise) => Ok(Command { exercise, rules }),
-        Err(NoExercise::Text) => Err(CommandError::Refused(Refusal::Text)),
-        Err(NoExercise::NoMemory) => Err(CommandError::NoMemory),
+        Err(TextFault::Line { line, kind }) => {
+            Err(CommandError::Refused(Refusal::Text(tm_lines::TextFault { line, kind })))
+        }
+        Err(TextFault::NoMemory) => Err(CommandError::NoMemory),
     }
 }

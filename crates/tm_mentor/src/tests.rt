@@ -218,7 +218,7 @@ fn a_blank_is_no_digit(rt: HostRuntime) -> Result<(), Fail> {
 #[test]
 fn texts_of_no_exercise_are_refused(rt: HostRuntime) -> Result<(), Fail> {
     let (outcome, sink) = command(rt.alloc(), "run", "mutex", &[], &[])?;
-    assert_eq!(rt; sink.bytes(), b"mentor: text\n".as_slice());
+    assert_eq!(rt; sink.bytes(), b"mentor: line 1: count\n".as_slice());
     assert_eq!(rt; outcome.status, 3);
     assert!(rt; outcome.finished.is_none());
     Ok(())

@@ -4,12 +4,12 @@ ghost use Rattle.tm_outside.specs.Faults.{next_count, Rose};
 ghost use Rattle.tm_outside.specs.Appending.{Appends};
 ghost use Rattle.tm_session.specs.declared.rules.Rules.{Rules};
 ghost use Rattle.tm_text.specs.Exercises.{ExerciseView};
-ghost use Rattle.tm_text.specs.Grammar.{IsExercise};
+ghost use Rattle.tm_text.specs.Texts.{IsExercise};
 ghost use Rattle.tm_mentor.specs.declared.refusals.Refusal.{Refusal};
 ghost use Rattle.tm_mentor.specs.CommandLine.{SpellsNoRun, SpellsRun};
 ghost use Rattle.tm_mentor.specs.Refusals.{line_of, status_of};
 ghost use Rattle.tm_mentor.specs.Outside.{input_of, output_of};
-ghost use Rattle.tm_mentor.specs.Found.{IsNoExercise, ReadsAtMost};
+ghost use Rattle.tm_mentor.specs.Found.{IsCause, IsNoExercise, ReadsAtMost};
 ghost use Rattle.tm_mentor.specs.Outcomes.{statuses, end_status, run_status, Forgoes, IsWritten, Runs, RunsNothing};
 
 use crate::answers::carry_out;
@@ -21,8 +21,8 @@ use tm_outside::{Sink, Source};
 /// most 2^20 bytes to its end, and writes the rows of its alone run and the last line. Two options
 /// may follow it, each at most once: `--schedule` with a number below 2^64, else 0, and `--events`
 /// with the number of calls that a thread may make, from 1 to 10,000, else 1,000. Where nothing is
-/// run it writes a line that says why, unless memory runs out: `mentor: usage`, `mentor: text` or
-/// `mentor: read fault`.
+/// run it writes a line that says why, unless memory runs out: `mentor: usage`, `mentor: read fault`, or
+/// for a text of no exercise its first faulty line and what is wrong with it, as `mentor: line 4: unknown`.
 pub fn mentor_alone<S: Source, K: Sink>(
     alloc: Global,
     words: &[String],
@@ -67,9 +67,12 @@ pub fn mentor_alone<S: Source, K: Sink>(
     ensures write_faults_show { K.fault_count sink.old < K.fault_count sink.new
         → Contains (5 ∷ 9 ∷ []) result.status }
 
-    // A status 2, 3 or 4 comes with its line, and an exercise without a fault runs.
-    ensures line { (refusal : Refusal) → result.status ≡ status_of refusal
-        → Appends (K.written sink.old) (K.written sink.new) (line_of refusal) }
+    // A status 2, 3 or 4 comes with the line of its cause, and an exercise without a fault runs.
+    ensures line { 2 ≤ result.status → result.status ≤ 4 → (refusal : Refusal)
+        × (result.status ≡ status_of refusal)
+        × IsCause refusal words.now (input_of S.left S.fault_count source.old)
+        (input_of S.left S.fault_count source.new)
+        × Appends (K.written sink.old) (K.written sink.new) (line_of refusal) }
     ensures complete { (x : ExerciseView) (rules : Rules) → SpellsRun words.now rules
         → IsSomeAnd (S.left source.old) (λ bytes. IsExercise bytes x)
         → ¬ Rose (S.fault_count source.old) (S.fault_count source.new)

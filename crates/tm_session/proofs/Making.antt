@@ -24,9 +24,11 @@ pub can_make : (x : ExerciseView) → IsWellFormed x → (o : ℕ) (d : Declarat
 can_make x formed o d found = record { few = formed.few_threads; kind = go d.kind refl (formed.kinds o d found) }
   where
     go : (k : Kind) → d.kind ≡ k → IsKindRead k → CanBe k (length x.programs)
-    go kind.Mutex e read = tt
+    go (kind.Sem value) e read = omega (arith, read)
+    go (kind.Barrier parties) e read = read.0
+    go (kind.Async capacity) e read = (read.0, read.1)
     go (kind.Thread own held) e read =
         let at = listed x.objects o d own found (ap thread_of_kind e) in
         let known = range_known 1 (length x.programs) at.0 own (ap (λ l. slice_get l at.0) (sym formed.numbered) ∙ at.1) in
         (known.0, omega (arith, known.1))
-    go k e read = elim read [ ]
+    go k e read = tt

@@ -1,10 +1,14 @@
 pub mod ProgramsLemmas
 pub mod Owns
-pub mod LinesLemmas
-pub mod Going
-pub mod SpelledLemmas
-pub mod ReaderSoundLemmas
-pub mod Complete
-pub mod Readings
-pub mod OwnNumbers
+mod Faultless
+mod SaidValues
+mod SaidNames
+mod SaidObjects
+mod SaidCalls
+mod SaidPrograms
+pub mod WellFormedTexts
 pub mod ThreadCalls
+mod ObjectsLemmas
+mod OwnNumbers
+mod SpelledLemmas
+mod ReadingsLemmas

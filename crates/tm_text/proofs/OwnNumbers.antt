@@ -9,7 +9,7 @@ use Rattle.tm_base.specs.declared.kinds.Kind.{Kind}
 use Rattle.tm_base.specs.declared.kinds.Kind.TheVariants as kind
 use Rattle.tm_text.specs.declared.exercises.Declaration.{Declaration}
 use Rattle.tm_text.specs.Exercises.{is_own, own_of, thread_of, thread_of_kind}
-use Rattle.tm_text.specs.Reading.{owns_of, owns_of_kind}
+use Rattle.tm_text.specs.Objects.{owns_of, owns_of_kind}
 
 -- in a list of numbered threads, the number of each own object stands at its thread's place
 abbrev AreOwns : List Declaration → Type 0

@@ -1,57 +1,57 @@
 -- The calls of the threads' programs are those of their instructions.
-use Rattle.std.proofs.Common.{◌≡◌, ℕ, zero, suc, true, List, [], ◌∷◌, Some, slice_get, refl, ap, ◌∙◌}
-use Rattle.tm_base.specs.declared.kinds.Kind.TheVariants as kind
-use Rattle.tm_base.specs.declared.opcodes.Opcode.{Opcode}
-use Rattle.tm_base.specs.declared.opcodes.Opcode.TheVariants as opcode
+use Rattle.std.proofs.Common.{◌≡◌, true, List, [], ◌∷◌}
+use Rattle.std.specs.List.{list_all}
+use Rattle.std.proofs.lemmas.Bool.{and_parts}
 use Rattle.tm_programs.specs.declared.instructions.Instruction.{Instruction}
 use Rattle.tm_programs.specs.declared.instructions.Instruction.TheVariants as instruction
-use Rattle.tm_programs.specs.declared.instructions.Operand.TheVariants as operand
-use Rattle.tm_programs.specs.Programs.{Program, Call}
-use Rattle.tm_programs.specs.Instructions.{IsNested, blocks_of, first_of, in_front, program_of, programs_of}
+use Rattle.tm_programs.specs.Programs.{Program, Call, Set, Inc, Repeat, While, If, Over}
+use Rattle.tm_programs.specs.Instructions.{around, first_of, in_front, program_of, programs_of}
 use Rattle.tm_programs.specs.Calls.{AllCallsPass}
 use Rattle.tm_text.specs.declared.exercises.Declaration.{Declaration}
-use Rattle.tm_text.specs.Exercises.{IsInstruction, IsOfKind, CallsFit, ProgramsAreNested, instructions_of, is_call_of, is_call_on}
-
--- the first program with one more instruction in front
-first-in_front : (one : Program → Program) (ps : List Program) → first_of (in_front one ps) ≡ one (first_of ps)
-first-in_front one [] = refl
-first-in_front one (p ∷ ps) = refl
+use Rattle.tm_text.specs.Exercises.{CallsFit, instructions_of, is_call_on, is_instruction_on, takes}
 
 module _ (ds : List Declaration) where
-  abbrev Are : List Instruction → Type 0
-  Are items = (k : ℕ) (i : Instruction) → slice_get items k ≡ Some i → IsInstruction ds i
+  abbrev Pass : Program → Type 0
+  Pass p = AllCallsPass (is_call_on ds) p
 
-  -- an instruction locks or unlocks a mutex
-  by_instruction : (P : Instruction → Type 0) → ((o : ℕ) → IsOfKind ds o kind.Mutex → P (instruction.Call o opcode.Lock operand.Nothing))
-      → ((o : ℕ) → IsOfKind ds o kind.Mutex → P (instruction.Call o opcode.Unlock operand.Nothing)) → (i : Instruction) → IsInstruction ds i → P i
-  by_instruction P lock unlock (instruction.Call o opcode.Lock operand.Nothing) h = lock o h
-  by_instruction P lock unlock (instruction.Call o opcode.Unlock operand.Nothing) h = unlock o h
-  by_instruction P lock unlock i h = elim h [ ]
+  -- every call of each of these programs is one that its object has
+  abbrev EachPass : List Program → Type 0
+  EachPass [] = Unit {0}
+  EachPass (p ∷ ps) = Pass p × EachPass ps
 
-  -- the mutex has the call
-  fits : (code : Opcode) (o : ℕ) → IsOfKind ds o kind.Mutex → is_call_of (Some (record { name = []; kind = kind.Mutex })) code operand.Nothing ≡ true → is_call_on ds o code operand.Nothing ≡ true
-  fits code o h test = ap (λ found. is_call_of found code operand.Nothing) h.1 ∙ (ap (λ k. is_call_of (Some (record { name = []; kind = k })) code operand.Nothing) h.2 ∙ test)
+  pass_in_front : (one : Program → Program) → ((p : Program) → Pass p → Pass (one p)) → (ps : List Program) → EachPass ps → EachPass (in_front one ps)
+  pass_in_front one passes [] h = (passes Over tt, tt)
+  pass_in_front one passes (p ∷ ps) h = (passes p h.0, h.1)
 
-  abbrev Passes : Instruction → List Instruction → Type 0
-  Passes i items = AllCallsPass (is_call_on ds) (program_of items) → AllCallsPass (is_call_on ds) (program_of (i ∷ items))
+  pass_around : (block : Program → Program → Program) → ((body next : Program) → Pass body → Pass next → Pass (block body next)) → (ps : List Program) → EachPass ps → EachPass (around block ps)
+  pass_around block passes [] h = (passes Over Over tt tt, tt)
+  pass_around block passes (body ∷ []) h = (passes body Over h.0 tt, tt)
+  pass_around block passes (body ∷ next ∷ ps) h = (passes body next h.0 h.1.0, h.1.1)
 
-  passes : (items : List Instruction) → Are items → AllCallsPass (is_call_on ds) (program_of items)
-  passes [] h = tt
-  passes (i ∷ items) h =
-      let rest = passes items (λ k j e. h (suc k) j e) in
-      by_instruction (λ j. Passes j items)
-      (λ o found all. rw (first-in_front (Call o opcode.Lock operand.Nothing) (programs_of items)) (fits opcode.Lock o found refl, all))
-      (λ o found all. rw (first-in_front (Call o opcode.Unlock operand.Nothing) (programs_of items)) (fits opcode.Unlock o found refl, all))
-      i (h zero i refl) rest
+  each_pass : (items : List Instruction) → list_all (is_instruction_on ds) items ≡ true → EachPass (programs_of items)
+  each_pass [] h = (tt, tt)
+  each_pass (instruction.Call object code with ∷ items) h =
+      let parts = and_parts (is_instruction_on ds (instruction.Call object code with)) (list_all (is_instruction_on ds) items) h in
+      let fits = (and_parts (is_call_on ds object code with) (takes code with) parts.0).0 in
+      pass_in_front (Call object code with) (λ p passes. (fits, passes)) (programs_of items) (each_pass items parts.1)
+  each_pass (instruction.Set register value ∷ items) h =
+      pass_in_front (Set register value) (λ p passes. passes) (programs_of items) (each_pass items (and_parts (is_instruction_on ds (instruction.Set register value)) (list_all (is_instruction_on ds) items) h).1)
+  each_pass (instruction.Inc register value ∷ items) h =
+      pass_in_front (Inc register value) (λ p passes. passes) (programs_of items) (each_pass items (and_parts (is_instruction_on ds (instruction.Inc register value)) (list_all (is_instruction_on ds) items) h).1)
+  each_pass (instruction.Repeat turns ∷ items) h =
+      pass_around (Repeat turns) (λ body next b n. (b, n)) (programs_of items) (each_pass items (and_parts (is_instruction_on ds (instruction.Repeat turns)) (list_all (is_instruction_on ds) items) h).1)
+  each_pass (instruction.While register how value ∷ items) h =
+      pass_around (While register how value) (λ body next b n. (b, n)) (programs_of items) (each_pass items (and_parts (is_instruction_on ds (instruction.While register how value)) (list_all (is_instruction_on ds) items) h).1)
+  each_pass (instruction.If register how value ∷ items) h =
+      pass_around (If register how value) (λ body next b n. (b, n)) (programs_of items) (each_pass items (and_parts (is_instruction_on ds (instruction.If register how value)) (list_all (is_instruction_on ds) items) h).1)
+  each_pass (instruction.End ∷ items) h = (tt, each_pass items h)
 
-  nested : (items : List Instruction) → Are items → IsNested items
-  nested [] h = refl
-  nested (i ∷ items) h =
-      let rest = nested items (λ k j e. h (suc k) j e) in
-      by_instruction (λ j. blocks_of [] (j ∷ items) ≡ Some []) (λ o found. rest) (λ o found. rest) i (h zero i refl)
+  first_passes : (ps : List Program) → EachPass ps → Pass (first_of ps)
+  first_passes [] h = tt
+  first_passes (p ∷ ps) h = h.0
+
+  pub calls_pass : (items : List Instruction) → list_all (is_instruction_on ds) items ≡ true → Pass (program_of items)
+  calls_pass items h = first_passes (programs_of items) (each_pass items h)
 
 pub calls_fit : CallsFit
-calls_fit x t formed = passes x.objects (instructions_of x t) (formed.instructions t)
-
-pub programs_are_nested : ProgramsAreNested
-programs_are_nested x t formed = nested x.objects (instructions_of x t) (formed.instructions t)
+calls_fit x t formed = calls_pass x.objects (instructions_of x t) (formed.instructions t)

@@ -1,6 +1,6 @@
 -- Exercises as contracts see them.
-use Rattle.std.specs.Prelude.{◌≡◌, ◌≢◌, ℕ, zero, suc, ◌+◌, ◌≤◌, pos, Bool, true, false, ◌&&◌, ◌==◌, if◌then◌else◌, List, [], ◌∷◌, length, codes, filter_map, slice_get, slice_index_or, Option, Some, None}
-use Rattle.std.specs.List.{range_with_len}
+use Rattle.std.specs.Prelude.{◌≡◌, ◌≢◌, ℕ, zero, suc, ◌+◌, ◌≤◌, pos, Bool, true, false, ◌&&◌, ◌==◌, if◌then◌else◌, List, [], ◌∷◌, length, codes, count_by, filter_map, nat_le, nat_lt, slice_get, slice_index_or, Option, Some, None}
+use Rattle.std.specs.List.{list_all, range_with_len}
 use Rattle.tm_base.specs.declared.opcodes.Opcode.TheVariants as opcode
 use Rattle.tm_programs.specs.declared.instructions.Operand.TheVariants as operand
 use Rattle.tm_base.specs.declared.kinds.Kind.{Kind}
@@ -17,7 +17,7 @@ use Rattle.tm_programs.specs.Programs.{Program, condition_of}
 use Rattle.tm_programs.specs.Instructions.{IsNested, program_of}
 use Rattle.tm_programs.specs.Calls.{AllCallsPass}
 use Rattle.tm_programs.specs.declared.instructions.Instruction.TheVariants as instruction
-use Rattle.tm_text.specs.declared.limits.TheConstants.{MOST_OBJECTS, MOST_INSTRUCTIONS}
+use Rattle.tm_lines.specs.declared.limits.TheConstants.{MOST_INSTRUCTIONS, MOST_OBJECTS}
 
 -- The objects with their names and kinds in order of declaration, and a program for each thread,
 -- from thread 1.
@@ -53,15 +53,14 @@ thread_of_kind k = None
 abbrev pub thread_of : Declaration → Option ℕ
 thread_of d = thread_of_kind d.kind
 
--- The object exists and is of this kind.
-abbrev pub IsOfKind : List Declaration → ℕ → Kind → Type 0
-IsOfKind ds o k = (d : Declaration) × (slice_get ds o ≡ Some d) × (d.kind ≡ k)
+-- The name of a declared object, and no bytes where there is none.
+abbrev pub name_at : Option Declaration → List ℕ
+name_at None = []
+name_at (Some d) = d.name
 
--- The calls that a text can have: locks and unlocks of mutexes.
-abbrev pub IsInstruction : List Declaration → Instruction → Type 0
-IsInstruction ds (instruction.Call object opcode.Lock operand.Nothing) = IsOfKind ds object kind.Mutex
-IsInstruction ds (instruction.Call object opcode.Unlock operand.Nothing) = IsOfKind ds object kind.Mutex
-IsInstruction ds s = ⊥
+-- The name of the object with this number.
+abbrev pub name_of : List Declaration → ℕ → List ℕ
+name_of ds o = name_at (slice_get ds o)
 
 -- A program can ask the operation: it is none of `begin`, `end`, `resume` and `stop`.
 abbrev pub is_asked : Opcode → Bool
@@ -79,30 +78,82 @@ is_call_of (Some d) code with = is_asked code && fits (op_with code (condition_o
 abbrev pub is_call_on : List Declaration → ℕ → Opcode → Operand → Bool
 is_call_on ds object code with = is_call_of (slice_get ds object) code with
 
--- The kinds of the objects that a text can have: mutexes, and threads that aren't held.
+-- What a call with this opcode has beside its object.
+abbrev pub takes : Opcode → Operand → Bool
+takes opcode.TryLock (operand.Register r) = nat_lt r 8
+takes opcode.TryP (operand.Register r) = nat_lt r 8
+takes opcode.Recv (operand.Register r) = nat_lt r 8
+takes opcode.Read (operand.Register r) = nat_lt r 8
+takes opcode.Wait (operand.Condition c) = true
+takes opcode.Signal (operand.Condition c) = true
+takes opcode.Broadcast (operand.Condition c) = true
+takes opcode.Send (operand.Number k) = true
+takes opcode.Send (operand.Register r) = nat_lt r 8
+takes opcode.Write (operand.Number k) = true
+takes opcode.Write (operand.Register r) = nat_lt r 8
+takes opcode.Add (operand.Number k) = true
+takes opcode.Add (operand.Register r) = nat_lt r 8
+takes opcode.TryLock with = false
+takes opcode.TryP with = false
+takes opcode.Recv with = false
+takes opcode.Read with = false
+takes opcode.Wait with = false
+takes opcode.Signal with = false
+takes opcode.Broadcast with = false
+takes opcode.Send with = false
+takes opcode.Write with = false
+takes opcode.Add with = false
+takes code operand.Nothing = true
+takes code with = false
+
+-- A program may have the instruction: a call is one that its object has, with what the operation takes; a
+-- register is one of the eight; and a `repeat` has no more turns than it may have.
+abbrev pub is_instruction_on : List Declaration → Instruction → Bool
+is_instruction_on ds (instruction.Call object code with) = is_call_on ds object code with && takes code with
+is_instruction_on ds (instruction.Set register value) = nat_lt register 8
+is_instruction_on ds (instruction.Inc register value) = nat_lt register 8
+is_instruction_on ds (instruction.Repeat turns) = nat_le turns 1000000
+is_instruction_on ds (instruction.While register how value) = nat_lt register 8
+is_instruction_on ds (instruction.If register how value) = nat_lt register 8
+is_instruction_on ds instruction.End = true
+
+-- The instruction isn't an `end`.
+abbrev pub is_counted : Instruction → Bool
+is_counted instruction.End = false
+is_counted i = true
+
+-- How many instructions these are, where `end` lines aren't counted.
+abbrev pub count_of : List Instruction → ℕ
+count_of items = count_by is_counted items
+
+-- The kinds of the objects that a text can declare, with their ranges.
 abbrev pub IsKindRead : Kind → Type 0
-IsKindRead kind.Mutex = Unit {0}
-IsKindRead (kind.Thread own held) = held ≡ false
-IsKindRead k = ⊥
+IsKindRead (kind.Sem value) = value ≤ 1000000
+IsKindRead (kind.Hoare conditions) = (1 ≤ conditions) × (conditions ≤ 16)
+IsKindRead (kind.Mesa conditions) = (1 ≤ conditions) × (conditions ≤ 16)
+IsKindRead (kind.Barrier parties) = (1 ≤ parties) × (parties ≤ 64)
+IsKindRead (kind.Async capacity) = (1 ≤ capacity) × (capacity ≤ 65535)
+IsKindRead k = Unit {0}
 
 -- What holds of every exercise that was read.
 pub record IsWellFormed (x : ExerciseView) : Type 0 where
   -- the objects, the threads and the instructions of each program are within their limits
   pub few_objects : length x.objects ≤ MOST_OBJECTS
   pub few_threads : length x.programs ≤ MOST_THREADS
-  pub short : (t : ℕ) → length (instructions_of x t) ≤ MOST_INSTRUCTIONS
+  pub short : (t : ℕ) → count_of (instructions_of x t) ≤ MOST_INSTRUCTIONS
   -- every object's name is a name, is not `main`, and is that of no other object
-  pub names : (o : ℕ) (d : Declaration) → slice_get x.objects o ≡ Some d → IsName d.name × (d.name ≢ codes "main")
-  pub once : (o p : ℕ) (c d : Declaration) → slice_get x.objects o ≡ Some c → slice_get x.objects p ≡ Some d → c.name ≡ d.name → o ≡ p
+  pub names : (o : ℕ) (d : Declaration) → slice_get x.objects o ≡ Some d
+      → IsName d.name × (d.name ≢ codes "main")
+  pub once : (o p : ℕ) (c d : Declaration) → slice_get x.objects o ≡ Some c → slice_get x.objects p ≡ Some d
+      → c.name ≡ d.name → o ≡ p
   pub kinds : (o : ℕ) (d : Declaration) → slice_get x.objects o ≡ Some d → IsKindRead d.kind
   -- the threads are numbered from 1 in order of declaration
   pub numbered : filter_map thread_of x.objects ≡ range_with_len 1 (length x.programs)
-  pub instructions : (t k : ℕ) (s : Instruction) → slice_get (instructions_of x t) k ≡ Some s → IsInstruction x.objects s
+  -- the blocks of each program are ended, nest no deeper than they may, and a loop has a call in its body
+  pub nested : (t : ℕ) → IsNested (instructions_of x t)
+  pub instructions : (t : ℕ) → list_all (is_instruction_on x.objects) (instructions_of x t) ≡ true
 
 -- In a well-formed exercise every call of a program is one that its object has.
 abbrev pub CallsFit : Type 0
-CallsFit = (x : ExerciseView) (t : ℕ) → IsWellFormed x → AllCallsPass (is_call_on x.objects) (program_of_thread x t)
-
--- And its instructions are nested.
-abbrev pub ProgramsAreNested : Type 0
-ProgramsAreNested = (x : ExerciseView) (t : ℕ) → IsWellFormed x → IsNested (instructions_of x t)
+CallsFit =
+    (x : ExerciseView) (t : ℕ) → IsWellFormed x → AllCallsPass (is_call_on x.objects) (program_of_thread x t)

@@ -1,4 +1,8 @@
 pub mod Exercises
 pub mod StoredExercises
-pub mod Grammar
-pub mod Reading
+pub mod Texts
+pub mod Objects
+pub mod StoredObjects
+pub mod Programs
+pub mod StoredPrograms
+pub mod Readings

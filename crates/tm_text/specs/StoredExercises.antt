@@ -10,5 +10,6 @@ exercise_view x = record { objects = x.objects.items; programs = map (λ p. p.it
 -- The exercise is well formed, and the number of each thread's own object is stored.
 pub record IsKept (x : Inside) : Type 0 where
   pub well_formed : IsWellFormed (exercise_view x)
-  pub owns : (t : ℕ) → t < length x.programs.items → slice_get x.owns.items t ≡ Some (own_of x.objects.items (suc t))
+  pub owns : (t : ℕ) → t < length x.programs.items
+      → slice_get x.owns.items t ≡ Some (own_of x.objects.items (suc t))
   pub own_count : length x.owns.items ≡ length x.programs.items

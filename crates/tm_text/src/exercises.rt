@@ -41,8 +41,10 @@ impl Exercise {
         programs: Vec<Vec<Instruction>>,
         owns: Vec<u32>,
     ) -> Exercise
-        requires well_formed { IsWellFormed (record { objects = objects.items; programs = map (λ p. p.items) programs.items }) }
-        requires owns { (t : ℕ) → t < length programs.items → slice_get owns.items t ≡ Some (own_of objects.items (suc t)) }
+        requires well_formed { IsWellFormed
+            (record { objects = objects.items; programs = map (λ p. p.items) programs.items }) }
+        requires owns { (t : ℕ) → t < length programs.items
+            → slice_get owns.items t ≡ Some (own_of objects.items (suc t)) }
         requires own_count { length owns.items ≡ length programs.items }
         ensures { result ≡ record { objects = objects.items; programs = map (λ p. p.items) programs.items } }
     {

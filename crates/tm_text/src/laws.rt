@@ -1,12 +1,17 @@
-ghost use Rattle.tm_text.specs.Exercises.{CallsFit, ProgramsAreNested};
+ghost use Rattle.tm_text.specs.Exercises.{CallsFit};
+ghost use Rattle.tm_text.specs.Texts.{ExercisesAreWellFormed, OneExercise};
 
 /// In a well-formed exercise every call of a program is one that its object has.
 pub fn calls_fit()
     ensures { CallsFit }
 {}
 
-/// In a well-formed exercise the blocks of each program are ended, nest no deeper than they may, and a loop has
-/// a call directly in its body.
-pub fn programs_are_nested()
-    ensures { ProgramsAreNested }
+/// A text is that of one exercise at most.
+pub fn one_exercise()
+    ensures { OneExercise }
+{}
+
+/// The exercise of a text is well formed.
+pub fn exercises_are_well_formed()
+    ensures { ExercisesAreWellFormed }
 {}

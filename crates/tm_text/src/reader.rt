@@ -1,55 +1,75 @@
-ghost use Rattle.std.specs.Prelude.{IfOk, IsErrOf};
-ghost use Rattle.std.specs.List.{AllByRecursion};
-ghost use Rattle.tm_text.specs.Exercises.{ExerciseView};
-ghost use Rattle.tm_text.specs.Grammar.{IsExercise};
-ghost use Rattle.tm_text.specs.Reading.{Gives, IsNamed, OneExercise, exercise_by, exercise_of};
+ghost use Rattle.std.specs.Prelude.{◌≡◌, false, IfErr, IfOk, OnOk, map};
+ghost use Rattle.tm_lines.specs.Checks.{before, fault_left, is_empty};
+ghost use Rattle.tm_lines.specs.TextFaults.{first_fault, said_words, text_lines};
+ghost use Rattle.tm_text.specs.Readings.{GoesOn, IsWhole, Refuses};
+ghost use Rattle.tm_text.specs.Texts.{IsExercise};
 
-use crate::blocks::{are_short, programs};
-use crate::declarations::{are_fit, objects, owns};
 use crate::exercises::Exercise;
-use crate::limits::MOST_BYTES;
-use crate::no_exercises::NoExercise;
-use crate::parsed_lines::{ParsedLine, parsed_lines};
+use crate::instructions::instruction;
+use crate::objects::{Objects, owns};
+use crate::programs::Programs;
+use crate::text_faults::TextFault;
 use std::alloc::Global;
-
-/// The exercise whose text the bytes are. `Text` exactly where they are the text of none, and
-/// `NoMemory` only where memory ran out.
-pub fn read(alloc: Global, bytes: &[u8]) -> Result<Exercise, NoExercise>
-    ensures read { IfOk result (λ x. IsExercise bytes.now x) }
-    ensures refused { IsErrOf result NoExercise.Text → (x : ExerciseView) → ¬ IsExercise bytes.now x }
-{
-    exercise(alloc, bytes)
-}
+use tm_lines::{Checker, Fault, Line, MOST_BYTES, Words};
+use tm_programs::Instruction;
 
 /// The exercise of the text.
-fn exercise(alloc: Global, bytes: &[u8]) -> Result<Exercise, NoExercise>
-    ensures { Gives (λ x. x) result (exercise_of bytes.now) }
+pub fn read(alloc: Global, bytes: &[u8]) -> Result<Exercise, TextFault>
+    ensures read { IfOk result (λ x. IsExercise bytes.now x) }
+    ensures refused { IfErr result (λ why. Refuses why (first_fault bytes.now)) }
 {
-    if bytes.len() > MOST_BYTES {
-        return Err(NoExercise::Text);
+    if MOST_BYTES < bytes.len() {
+        return Err(TextFault::Line {
+            line: 0,
+            kind: Fault::Size,
+        });
     }
-    let parsed_lines = parsed_lines(alloc, bytes)?;
-    spelled(alloc, parsed_lines.as_slice())
+    let objects = Objects::of_text(alloc, bytes)?;
+    let programs = programs(alloc, &objects, bytes)?;
+    let declarations = objects.into_declarations();
+    let owns = owns(alloc, declarations.as_slice())?;
+    Ok(Exercise::from_parts(declarations, programs, owns))
 }
 
-/// The exercise that the parsed lines spell.
-fn spelled(alloc: Global, parsed_lines: &[ParsedLine]) -> Result<Exercise, NoExercise>
-    requires { AllByRecursion IsNamed parsed_lines.now }
-    ensures { Gives (λ x. x) result (exercise_by parsed_lines.now) }
+/// The programs of the text's threads, in order. Calls are of these objects.
+fn programs(
+    alloc: Global,
+    objects: &Objects,
+    text: &[u8],
+) -> Result<Vec<Vec<Instruction>>, TextFault>
+    ensures programs { IfOk result (λ v. IsWhole objects.now.objects text.now (map (λ p. p.items) v.items)) }
+    ensures refused { IfErr result (λ why. Refuses why (fault_left (before text.now))) }
 {
-    let objects = objects(alloc, parsed_lines)?;
-    if !are_fit(objects.as_slice()) {
-        return Err(NoExercise::Text);
+    let mut checker = Checker::of_text(alloc, text)?;
+    let mut programs = Programs::new(alloc);
+    while !checker.is_done() {
+        step(alloc, objects, &mut checker, &mut programs)?;
     }
-    let programs = programs(alloc, objects.as_slice(), parsed_lines)?;
-    if !are_short(programs.as_slice()) {
-        return Err(NoExercise::Text);
+    match checker.at_end() {
+        None => Ok(programs.into_ended()),
+        Some(faulty) => Err(TextFault::of_line(faulty)),
     }
-    let owns = owns(alloc, objects.as_slice())?;
-    Ok(Exercise::from_parts(objects, programs, owns))
 }
 
-/// A text is that of one exercise at most.
-pub fn one_exercise()
-    ensures { OneExercise }
-{}
+/// Looks at the next line, and adds what it says to the programs.
+fn step(
+    alloc: Global,
+    objects: &Objects,
+    checker: &mut Checker,
+    programs: &mut Programs,
+) -> Result<(), TextFault>
+    requires { is_empty checker.old.rest ≡ false }
+    ensures goes_on { OnOk result
+        (GoesOn objects.now.objects checker.old checker.new programs.old programs.new) }
+    ensures refused { IfErr result (λ why. Refuses why (fault_left checker.old)) }
+{
+    match checker.next_line() {
+        Line::Ignored => Ok(()),
+        Line::Said(said) => {
+            let instruction = instruction(objects, said.first, &Words::of_line(said.rest));
+            programs.take(alloc, said.first, instruction)?;
+            Ok(())
+        }
+        Line::Faulty(faulty) => Err(TextFault::of_line(faulty)),
+    }
+}

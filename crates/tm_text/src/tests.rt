@@ -1,138 +1,157 @@
 use super::*;
 use std::alloc::Global;
-use std::process::Abort;
 use std::test::Fail;
-use tm_base::{Ask, Kind, Op, Reply};
+use tm_base::{Ask, Kind, Op, Opcode};
+use tm_programs::{Comparison, Instruction, Operand};
 
-/// Whether the text is taken.
-fn takes(alloc: Global, text: &[u8]) -> Result<bool, Fail> {
-    match read(alloc, text) {
-        Ok(_) => Ok(true),
-        Err(NoExercise::Text) => Ok(false),
-        Err(NoExercise::NoMemory) => Err(Fail::from(NoExercise::NoMemory)),
-    }
-}
+/// A text of two threads, with an object of each kind and each form of instruction.
+const TEXT: &[u8] =
+    b"# all\nmutex m\nrwlock w\nsync c\nsem s 7\nmonitor h hoare 2\nmonitor n mesa 16\n\
+barrier b 64\nasync a 65535\nvar v -5\nthread A held\nlock m\nset r1 -2\ninc r1 3\nrepeat 2\nsend c r1\n\
+if r1 >= 5\nwait h 1\nend\nend\nwhile r1 != 0\n\trecv a r2\r\nend\nend\nthread B\nsend a -1\nstart A\nend";
+
+/// Its objects.
+const OBJECTS: [(&[u8], Kind); 11] = [
+    (b"m", Kind::Mutex),
+    (b"w", Kind::Rw),
+    (b"c", Kind::Sync),
+    (b"s", Kind::Sem { value: 7 }),
+    (b"h", Kind::Hoare { conditions: 2 }),
+    (b"n", Kind::Mesa { conditions: 16 }),
+    (b"b", Kind::Barrier { parties: 64 }),
+    (b"a", Kind::Async { capacity: 65535 }),
+    (b"v", Kind::Var { value: -5 }),
+    (b"A", Kind::Thread { own: 1, held: true }),
+    (
+        b"B",
+        Kind::Thread {
+            own: 2,
+            held: false,
+        },
+    ),
+];
+
+/// The program of its first thread.
+const PROGRAM: [Instruction; 12] = [
+    Instruction::Call {
+        object: 0,
+        opcode: Opcode::Lock,
+        operand: Operand::Nothing,
+    },
+    Instruction::Set {
+        register: 1,
+        value: -2,
+    },
+    Instruction::Inc {
+        register: 1,
+        value: 3,
+    },
+    Instruction::Repeat { turns: 2 },
+    Instruction::Call {
+        object: 2,
+        opcode: Opcode::Send,
+        operand: Operand::Register(1),
+    },
+    Instruction::If {
+        register: 1,
+        comparison: Comparison::AtLeast,
+        value: 5,
+    },
+    Instruction::Call {
+        object: 4,
+        opcode: Opcode::Wait,
+        operand: Operand::Condition(1),
+    },
+    Instruction::End,
+    Instruction::End,
+    Instruction::While {
+        register: 1,
+        comparison: Comparison::NotEqual,
+        value: 0,
+    },
+    Instruction::Call {
+        object: 7,
+        opcode: Opcode::Recv,
+        operand: Operand::Register(2),
+    },
+    Instruction::End,
+];
 
 #[test]
 fn an_exercise_is_read_with_its_names_kinds_and_programs(rt: HostRuntime) -> Result<(), Fail> {
-    let text = b"mutex m\nthread A\nlock m\nunlock m\nend\nthread B\nlock m\nunlock m\nend\n";
-    let exercise = read(rt.alloc(), text)?;
+    let exercise = read(rt.alloc(), TEXT)?;
     assert_eq!(rt; exercise.threads(), 2);
-    assert_eq!(rt; exercise.objects(), 3);
-    assert_eq!(rt; exercise.name(0).bytes(), b"m".as_slice());
-    assert_eq!(rt; exercise.name(2).bytes(), b"B".as_slice());
-    assert_eq!(rt; exercise.kind(0), Kind::Mutex);
+    assert_eq!(rt; exercise.objects(), 11);
+    for (object, (name, kind)) in OBJECTS.iter().enumerate() {
+        assert_eq!(rt; exercise.name(object as u32).bytes(), *name);
+        assert_eq!(rt; exercise.kind(object as u32), *kind);
+    }
+    assert_eq!(rt; exercise.own(1), 9);
+    assert_eq!(rt; exercise.own(2), 10);
+    assert_eq!(rt; exercise.instructions(1), PROGRAM.as_slice());
+    let script = Script::make(rt.alloc(), &exercise, 2)?;
+    let first = Ask::Call {
+        object: 7,
+        op: Op::Send(-1),
+    };
+    assert_eq!(rt; script.asked(), Some(first));
+    Ok(())
+}
+
+/// Texts with the faulty line that is answered, if one is.
+const TEXTS: [(&[u8], Option<(u64, Fault)>); 7] = [
+    (b"", None),
+    (b"\n# x\x01\n", None),
+    (b"thread A\nlock m\nend\nmutex m", None),
+    (b"mutex m\n\nm\nmutex m", Some((3, Fault::Word))),
+    (b"mutex m\nmutex m\nm", Some((2, Fault::Name))),
+    (b"thread A\nlock q\nend", Some((2, Fault::Unknown))),
+    (b"thread A\nif r0 < 1\nend", Some((4, Fault::NotEnded))),
+];
+
+/// The faulty line that is answered for the text, if one is.
+fn refusal(alloc: Global, text: &[u8]) -> Result<Option<(u64, Fault)>, Fail> {
+    match read(alloc, text) {
+        Ok(_) => Ok(None),
+        Err(TextFault::Line { line, kind }) => Ok(Some((line, kind))),
+        Err(TextFault::NoMemory) => Err(Fail::from(TextFault::NoMemory)),
+    }
+}
+
+#[test]
+fn a_text_is_refused_with_its_first_faulty_line(rt: HostRuntime) -> Result<(), Fail> {
+    for (text, answer) in &TEXTS {
+        assert_eq!(rt; refusal(rt.alloc(), text)?, *answer, "in {text:?}");
+    }
+    let most = vec![in rt.alloc(); b'\n'; MOST_BYTES]?;
+    assert_eq!(rt; refusal(rt.alloc(), most.as_slice())?, None);
+    let more = vec![in rt.alloc(); b'\n'; MOST_BYTES + 1]?;
     assert_eq!(rt;
-        exercise.kind(2),
-        Kind::Thread {
-            own: 2,
-            held: false
-        }
+        refusal(rt.alloc(), more.as_slice())?,
+        Some((0, Fault::Size))
     );
-    assert_eq!(rt; exercise.own(1), 1);
-    assert_eq!(rt; exercise.own(2), 2);
-    let mut script = Script::make(rt.alloc(), &exercise, 2)?;
-    assert_eq!(rt;
-        script.asked(),
-        Some(Ask::Call {
-            object: 0,
-            op: Op::Lock
-        })
-    );
-    script.answer(Reply::Ok);
-    script.answer(Reply::Stopped);
-    assert_eq!(rt; script.asked(), None);
     Ok(())
 }
 
-#[test]
-fn texts_of_no_exercise_are_refused(rt: HostRuntime) -> Result<(), Fail> {
-    let texts = [
-        "m",
-        "mutex",
-        "mutex 1a",
-        "mutex main",
-        "mutex m\nmutex m",
-        "thread A\nlock m\nend",
-        "thread A\nlock A\nend",
-        "thread A",
-        "end",
-        "lock m",
-        "thread A held\nend",
-        "mutex m\x01",
-        "mutex abcdefghijklmnopq",
-        "thread A\nmutex m\nend",
-        "mutex m\r\r",
-    ];
-    for text in texts {
-        assert!(rt; !takes(rt.alloc(), text.as_bytes())?);
-    }
-    Ok(())
-}
-
-#[test]
-fn blanks_comments_and_carriage_returns_are_taken(rt: HostRuntime) -> Result<(), Fail> {
-    let texts = [
-        "",
-        "\n",
-        "# x\x01\n",
-        "  #x",
-        "\tmutex\t m\r\n",
-        "mutex m\r",
-        "thread A\nlock m\nend\nmutex m",
-        "mutex abcdefghijklmnop",
-    ];
-    for text in texts {
-        assert!(rt; takes(rt.alloc(), text.as_bytes())?);
-    }
-    Ok(())
-}
-
-/// A text of a thread with this many instructions.
-fn long(alloc: Global, instructions: usize) -> Result<String, Fail> {
-    let mut text = String::from_str(alloc, "mutex m\nthread A\n")?;
-    for _ in 0..instructions {
-        text.push_str("lock m\n")?;
-    }
-    text.push_str("end\n")?;
-    Ok(text)
-}
-
-#[test]
-fn a_program_has_4096_instructions_at_most(rt: HostRuntime) -> Result<(), Fail> {
-    let text = long(rt.alloc(), 4096)?;
-    assert!(rt; takes(rt.alloc(), text.as_bytes())?);
-    let text = long(rt.alloc(), 4097)?;
-    assert!(rt; !takes(rt.alloc(), text.as_bytes())?);
-    Ok(())
-}
-
-/// A text that declares this many objects: each by the word, a name and these lines.
+/// A text that declares so many objects: each by the word, a name and these lines.
 fn declaring(alloc: Global, word: &str, lines: &str, count: u32) -> Result<String, Fail> {
     let mut text = String::new(alloc);
     for number in 0..count {
-        let object = format!(in alloc; "{word} a{number}\n{lines}")?;
-        text.push_str(object.as_str())?;
+        write!(text, "{word} a{number}\n{lines}")?;
     }
     Ok(text)
 }
 
 #[test]
 fn an_exercise_has_256_objects_and_64_threads_at_most(rt: HostRuntime) -> Result<(), Fail> {
-    for (word, lines, most) in [("mutex", "", 256u32), ("thread", "end\n", 64)] {
+    for (word, lines, most, line) in [("mutex", "", 256u32, 257u64), ("thread", "end\n", 64, 129)] {
         let text = declaring(rt.alloc(), word, lines, most)?;
-        assert!(rt; takes(rt.alloc(), text.as_bytes())?);
+        assert_eq!(rt; refusal(rt.alloc(), text.as_bytes())?, None);
         let text = declaring(rt.alloc(), word, lines, most + 1)?;
-        assert!(rt; !takes(rt.alloc(), text.as_bytes())?);
+        assert_eq!(rt;
+            refusal(rt.alloc(), text.as_bytes())?,
+            Some((line, Fault::Limit))
+        );
     }
-    Ok(())
-}
-
-#[test]
-fn a_text_has_1048576_bytes_at_most(rt: HostRuntime) -> Result<(), Fail> {
-    let mut text = vec![in rt.alloc(); b'#'; 1_048_577]?;
-    assert!(rt; !takes(rt.alloc(), text.as_slice())?);
-    text.pop();
-    assert!(rt; takes(rt.alloc(), text.as_slice())?);
     Ok(())
 }

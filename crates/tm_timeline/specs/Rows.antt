@@ -9,8 +9,7 @@ use Rattle.tm_base.specs.declared.replies.Reply.TheVariants as reply
 use Rattle.tm_base.specs.declared.bars.Bar.{Bar}
 use Rattle.tm_base.specs.declared.ends.End.{End}
 use Rattle.tm_base.specs.declared.ends.End.TheVariants as end
-use Rattle.tm_text.specs.Exercises.{ExerciseView, own_of}
-use Rattle.tm_text.specs.Grammar.{name_of}
+use Rattle.tm_text.specs.Exercises.{ExerciseView, name_of, own_of}
 use Rattle.tm_timeline.specs.Words.{op_word, reply_word, bar_letter, end_word}
 
 -- LF, which ends a line.

@@ -1,6 +1,6 @@
 ghost use Rattle.std.specs.Prelude.{◌≡◌, ◌≤◌, ◌<◌, ◌++◌, OnOk, codes, length};
 ghost use Rattle.std.specs.Fmt.{decimal, signed_decimal};
-ghost use Rattle.tm_text.specs.Grammar.{name_of};
+ghost use Rattle.tm_text.specs.Exercises.{name_of};
 ghost use Rattle.tm_timeline.specs.Rows.{thread_name, operand_text, detail_text, NamesThread};
 
 use std::alloc::Global;

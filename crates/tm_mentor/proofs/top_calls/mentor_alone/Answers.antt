@@ -1,10 +1,10 @@
-use Rattle.std.proofs.Common.{[], ◌∷◌, sym, ap, ◌∙◌, subst, ◌≡◌, ◌↔◌}
+use Rattle.std.proofs.Common.{[], ◌∷◌, sym, ap, arith, ◌∙◌, subst, ◌≡◌, ◌↔◌}
 use Rattle.std.specs.List.{Contains}
 use Rattle.std.specs.Option.{IsSomeAnd}
 use Rattle.tm_mentor.specs.declared.outcomes.Outcome.{Outcome}
 use Rattle.tm_mentor.specs.CommandLine.{SpellsNoRun}
-use Rattle.tm_mentor.specs.Outcomes.{statuses, end_status, IsWritten}
-use Rattle.tm_mentor.proofs.Told.{status_by, usage_by, unspelled_by, no_exercise_by, complete_by, written_by, write_faults_by, no_memory_by}
+use Rattle.tm_mentor.specs.Outcomes.{statuses, end_status, outcome_of, IsWritten}
+use Rattle.tm_mentor.proofs.Told.{status_by, usage_by, unspelled_by, no_exercise_by, complete_by, written_by, write_faults_by, no_memory_by, line_by, text_by, IsEnded, ended_by}
 use Rattle.tm_mentor.proofs.top_calls.mentor_alone.Goals as goal
 
 pub returns-clause-statuses : goal.returns-clause-statuses
@@ -51,3 +51,19 @@ returns-clause-write_faults_show g c =
     λ rises.
     let P : Outcome → Type 0 = λ o. Contains (5 ∷ 9 ∷ []) o.status in
     subst P (sym c.of.ensures) (write_faults_by c.args.words.now _ _ _ _ c.carry_out-answer.result c.carry_out-answer.ensures.answers rises)
+
+pub returns-clause-line : goal.returns-clause-line
+returns-clause-line g c =
+    let w = c.carry_out-answer in
+    let same : (outcome_of w.result).status ≡ c.of.result.status = sym (ap (λ (o : Outcome). o.status) c.of.ensures) in
+    λ least most.
+    let told = line_by c.args.words.now _ _ _ _ w.result w.ensures.answers (omega (arith, same, least)) (omega (arith, same, most)) in
+    (told.0, sym same ∙ told.1, told.2, told.3)
+
+pub returns-clause-text : goal.returns-clause-text
+returns-clause-text g c =
+    λ same.
+    text_by c.args.words.now _ _ _ _ c.carry_out-answer.result c.carry_out-answer.ensures.answers (sym (ap (λ (o : Outcome). o.status) c.of.ensures) ∙ same)
+
+pub returns-clause-ended : goal.returns-clause-ended
+returns-clause-ended g c = subst IsEnded (sym c.of.ensures) (ended_by c.carry_out-answer.result)

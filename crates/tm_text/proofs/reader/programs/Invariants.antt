@@ -1,0 +1,15 @@
+use Rattle.std.proofs.Common.{◌≡◌, length}
+use Rattle.tm_lines.specs.Checks.{before, fault_left}
+use Rattle.tm_lines.specs.TextFaults.{said_words, text_lines}
+use Rattle.tm_text.specs.Programs.{with_said}
+use Rattle.tm_text.specs.Texts.{programs_said}
+use Rattle.tm_text.proofs.reader.programs.Given as goal
+
+abbrev pub invariant-loop-alloc : goal.invariant-loop-alloc
+invariant-loop-alloc l = record {
+  fault : fault_left l.checker ≡ fault_left (before l.text);
+  programs : with_said l.objects.objects l.programs (said_words (text_lines l.checker.rest)) ≡ programs_said l.objects.objects 0 (said_words (text_lines l.text));
+}
+
+abbrev pub decreases-loop-alloc : goal.decreases-loop-alloc
+decreases-loop-alloc l = length (text_lines l.checker.rest)

@@ -1,0 +1,72 @@
+-- The objects of a text as its lines declare them, and the numbers of threads' own objects.
+use Rattle.std.specs.Prelude.{◌≡◌, ℕ, suc, ◌+◌, ◌<◌, ◌≤◌, if◌then◌else◌, List, [], ◌∷◌, ◌++◌, length, slice_get, Option, Some, None}
+use Rattle.std.specs.Str.{bytes_eq}
+use Rattle.tm_base.specs.declared.kinds.Kind.{Kind}
+use Rattle.tm_base.specs.declared.kinds.Kind.TheVariants as kind
+use Rattle.tm_base.specs.Names.{IsName}
+use Rattle.tm_lines.specs.declared.first_words.Declarator.{Declarator}
+use Rattle.tm_lines.specs.declared.limits.TheConstants.{MOST_OBJECTS}
+use Rattle.tm_lines.specs.declared.words.Words.{Words}
+use Rattle.tm_lines.specs.FirstWords.{first_word_of}
+use Rattle.tm_lines.specs.Lines.{words_of}
+use Rattle.tm_lines.specs.NamedLines.{declarator_of, kind_by, word_at}
+use Rattle.tm_lines.specs.TextFaults.{said_words, text_lines}
+use Rattle.tm_text.specs.declared.exercises.Declaration.{Declaration}
+use Rattle.tm_text.specs.Texts.{declarations_said}
+
+-- The objects that lines declare, and the number of the next thread.
+pub record Declared : Type 0 where
+  pub objects : List Declaration
+  pub thread : ℕ
+
+-- The objects with those that the lines declare which are left.
+abbrev pub with_lines : Declared → List (List ℕ) → List Declaration
+with_lines v lines = v.objects ++ declarations_said v.thread (said_words lines)
+
+-- Each object has a name, and there are no more than there may be.
+pub record IsDeclarable (ds : List Declaration) : Type 0 where
+  pub few : length ds ≤ MOST_OBJECTS
+  pub named : (o : ℕ) (d : Declaration) → slice_get ds o ≡ Some d → IsName d.name
+
+-- The objects are those of the text, if they can be declared.
+abbrev pub Declares : List ℕ → Declared → Type 0
+Declares text v =
+    IsDeclarable (declarations_said 1 (said_words (text_lines text)))
+    → v.objects ≡ declarations_said 1 (said_words (text_lines text))
+
+-- No line of the text declares an object.
+abbrev pub DeclaresNothing : List ℕ → Type 0
+DeclaresNothing text = (v : Declared) → with_lines v (text_lines text) ≡ v.objects
+
+-- This line of the text is the next that declares an object, and these bytes follow it.
+pub record DeclaresNext (text : List ℕ) (d : Declarator) (line rest : List ℕ) : Type 0 where
+  pub first : declarator_of (first_word_of (word_at 0 (words_of line))) ≡ Some d
+  pub lines : (v : Declared) → with_lines v (text_lines text) ≡ with_lines v (line ∷ text_lines rest)
+  pub shorter : length rest < length text
+
+-- The object that a line of these words declares. A thread has this number.
+abbrev pub object_by : ℕ → Declarator → Words → Declaration
+object_by t d words = record { name = words.second.now; kind = kind_by t d words.third.now words.fourth.now }
+
+-- One object more, after which the next thread has this number.
+abbrev pub with_object : Declared → Declaration → ℕ → Declared
+with_object v d t = record { objects = v.objects ++ d ∷ []; thread = t }
+
+-- The number of the one object, if it has the name.
+abbrev pub one_number : ℕ → List ℕ → List ℕ → Option ℕ
+one_number o declared name = if bytes_eq declared name then Some o else None
+
+-- The number of the first object with the name, where the first of these has this number.
+abbrev pub number_in : ℕ → List Declaration → List ℕ → Option ℕ
+number_in o [] name = None
+number_in o (d ∷ ds) name = if bytes_eq d.name name then Some o else number_in (suc o) ds name
+
+-- The numbers with this object's in front, where it is a thread's own object.
+abbrev pub owns_of_kind : ℕ → Kind → List ℕ → List ℕ
+owns_of_kind o (kind.Thread own held) os = o ∷ os
+owns_of_kind o k os = os
+
+-- The numbers of the threads' own objects, where the first object has this number.
+abbrev pub owns_of : ℕ → List Declaration → List ℕ
+owns_of o [] = []
+owns_of o (d ∷ ds) = owns_of_kind o d.kind (owns_of (o + 1) ds)

@@ -1,0 +1,116 @@
+ghost use Rattle.std.specs.Prelude.{◌≡◌, pos};
+ghost use Rattle.tm_lines.specs.declared.first_words.Slot.TheVariants.{Value};
+ghost use Rattle.tm_lines.specs.FirstWords.{operand_slots};
+ghost use Rattle.tm_lines.specs.NamedLines.{natural_or};
+ghost use Rattle.tm_text.specs.Programs.{words_after};
+ghost use Rattle.tm_text.specs.Texts.{comparison_said, instruction_said, number_said, operand_by, operand_said, register_said};
+
+use crate::objects::Objects;
+use tm_base::Opcode;
+use tm_lines::{
+    FirstWord, GREATEST_NUMBER, LEAST_NUMBER, MOST_TURNS, Words, begins_with_r, comparison, number,
+    register,
+};
+use tm_programs::{Comparison, Instruction, Operand};
+
+/// The instruction that a line says by its first word and the words after it.
+pub fn instruction(objects: &Objects, first: FirstWord, after: &Words) -> Instruction
+    ensures { result ≡ instruction_said objects.now.objects first (words_after after.now) }
+{
+    match first {
+        FirstWord::Declares(_) => Instruction::End,
+        FirstWord::Calls(opcode) => Instruction::Call {
+            object: objects.number(after.first),
+            opcode,
+            operand: operand(opcode, after.second),
+        },
+        FirstWord::Set => Instruction::Set {
+            register: register_or(after.first),
+            value: number_or(after.second),
+        },
+        FirstWord::Inc => Instruction::Inc {
+            register: register_or(after.first),
+            value: number_or(after.second),
+        },
+        FirstWord::Repeat => Instruction::Repeat {
+            turns: turns(after.first),
+        },
+        FirstWord::While => Instruction::While {
+            register: register_or(after.first),
+            comparison: comparison_or(after.second),
+            value: number_or(after.third),
+        },
+        FirstWord::If => Instruction::If {
+            register: register_or(after.first),
+            comparison: comparison_or(after.second),
+            value: number_or(after.third),
+        },
+        FirstWord::End => Instruction::End,
+    }
+}
+
+/// What a call of the operation has beside its object, by its third word.
+fn operand(opcode: Opcode, word: &[u8]) -> Operand
+    ensures { result ≡ operand_said (operand_slots opcode) word.now }
+{
+    match opcode {
+        Opcode::TryLock | Opcode::TryP | Opcode::Recv | Opcode::Read => {
+            Operand::Register(register_or(word))
+        }
+        Opcode::Wait | Opcode::Signal | Opcode::Broadcast => Operand::Condition(condition(word)),
+        Opcode::Send | Opcode::Write | Opcode::Add => value(word),
+        _ => Operand::Nothing,
+    }
+}
+
+/// The register or the number that the word says.
+fn value(word: &[u8]) -> Operand
+    ensures { result ≡ operand_by Value word.now }
+{
+    if begins_with_r(word) {
+        Operand::Register(register_or(word))
+    } else {
+        Operand::Number(number_or(word))
+    }
+}
+
+/// The register that the word names, or the first where it names none.
+fn register_or(word: &[u8]) -> u8
+    ensures { result ≡ register_said word.now }
+{
+    register(word).unwrap_or(0)
+}
+
+/// The number that the word writes, or 0 where it writes none.
+fn number_or(word: &[u8]) -> i64
+    ensures { result ≡ number_said word.now }
+{
+    number(LEAST_NUMBER, GREATEST_NUMBER, word).unwrap_or(0)
+}
+
+/// The comparison with this sign, or `=` where it is no sign.
+fn comparison_or(word: &[u8]) -> Comparison
+    ensures { result ≡ comparison_said word.now }
+{
+    comparison(word).unwrap_or(Comparison::Equal)
+}
+
+/// The condition that the word says, or the first where it says none.
+fn condition(word: &[u8]) -> u8
+    ensures { result ≡ natural_or 0 (pos 0) (pos 15) word.now }
+{
+    match number(0, 15, word) {
+        None => 0,
+        Some(k) => k.unsigned_abs() as u8,
+    }
+}
+
+/// How many turns the word says, or none where it says nothing.
+fn turns(word: &[u8]) -> u32
+    ensures { result ≡ natural_or 0 (pos 0) MOST_TURNS word.now }
+{
+    match number(0, MOST_TURNS, word) {
+        None => 0,
+        Some(k) => k.unsigned_abs() as u32,
+    }
+}
