@@ -44,3 +44,11 @@ fits (op.End cut) (kind.Thread own held) = true
 fits op.Resume k = true
 fits op.Stop k = true
 fits o k = false
+
+-- A call is what a program asks: none of `begin`, `end`, `resume` and `stop`.
+abbrev pub is_call : Op → Bool
+is_call op.Begin = false
+is_call (op.End cut) = false
+is_call op.Resume = false
+is_call op.Stop = false
+is_call o = true

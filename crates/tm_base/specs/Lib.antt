@@ -1,4 +1,5 @@
 pub mod Fits
+pub mod Bodies
 pub mod Opcodes
 pub mod States
 pub mod TableRows

@@ -1,5 +1,5 @@
 -- Opcodes: operations without their operands, and the words that spell them.
-use Rattle.std.specs.Prelude.{◌≡◌, ℕ, ℤ, Bool, false, List, codes}
+use Rattle.std.specs.Prelude.{◌≡◌, ℕ, ℤ, false, List, codes}
 use Rattle.tm_base.specs.declared.operations.Op.{Op}
 use Rattle.tm_base.specs.declared.operations.Op.TheVariants as op
 use Rattle.tm_base.specs.declared.opcodes.Opcode.{Opcode}

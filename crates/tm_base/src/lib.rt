@@ -4,6 +4,7 @@
 
 mod asks;
 mod bars;
+mod bodies;
 mod ends;
 mod events;
 mod kept;
@@ -22,6 +23,7 @@ mod tickets;
 
 pub use asks::Ask;
 pub use bars::Bar;
+pub use bodies::Body;
 pub use ends::End;
 pub use events::Entry;
 pub use kept::Kept;

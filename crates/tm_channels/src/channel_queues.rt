@@ -1,5 +1,5 @@
 ghost use Rattle.std.specs.Prelude.{◌≡◌, ◌≤◌, ◌∷◌, [], Some, None, true, false, length, IfOk, IfNone, OnSome, MatchOption, slice_get, slice_set, slice_index_or};
-ghost use Rattle.tm_base.specs.TableRows.{waiting_reply};
+ghost use Rattle.tm_base.specs.TableRows.{waiting_reply as reply_while};
 ghost use Rattle.tm_channels.specs.ChannelQueues.{
   ChannelQueuesView,
   GivesReceiver,
@@ -15,7 +15,7 @@ ghost use Rattle.tm_channels.specs.ChannelQueues.{
 use std::alloc::Global;
 use std::marker::Model;
 use tm_base::{MOST_THREADS, NoMemory, Reply};
-use tm_queues::{Grants, ValuedQueue, WaitQueue};
+use tm_queues::{Grants, ValuedQueue, WaitQueue, waiting_reply};
 
 /// Who waits at a channel: senders, each with its message, and receivers, with the granted replies, and
 /// whether the channel was closed and whether it was stopped. Contracts see these, and how many threads
@@ -153,13 +153,9 @@ impl ChannelQueues {
 
     /// The reply of a call that would wait now.
     pub fn would_wait(&self) -> Reply
-        ensures { result ≡ waiting_reply self.now.stopped }
+        ensures { result ≡ reply_while self.now.stopped }
     {
-        if self.stopped {
-            Reply::Stopped
-        } else {
-            Reply::Wait
-        }
+        waiting_reply(self.stopped)
     }
 
     /// Whether the thread waits, or was granted a reply that it hasn't taken.

@@ -1,5 +1,4 @@
 ghost use Rattle.std.specs.Prelude.{◌≡◌, ◌≤◌, ◌||◌, true, false, Some, None, IfOk};
-ghost use Rattle.tm_base.specs.TableRows.{waiting_reply};
 ghost use Rattle.tm_base.specs.Machines.{Answers, CanStep, Steps, fresh, holds};
 ghost use Rattle.tm_locks.specs.ReaderWriterLocks.{Admits};
 
@@ -7,7 +6,7 @@ use crate::readers::{admit_readers, take_out};
 use std::alloc::Global;
 use std::marker::Model;
 use tm_base::{Kind, MOST_THREADS, Machine, NoMemory, Op, Reply};
-use tm_queues::{Grants, ValuedQueue, WaitQueue};
+use tm_queues::{Grants, ValuedQueue, WaitQueue, waiting_reply};
 
 /// The reader-writer lock of textbooks, with one queue in order of arrival. Contracts see it as the
 /// object that it is.
@@ -131,7 +130,7 @@ impl RwM {
         } else if self.writer.is_none() && self.queue.is_empty() {
             Reply::Ok
         } else {
-            self.would_wait()
+            waiting_reply(self.stopped)
         }
     }
 
@@ -144,7 +143,7 @@ impl RwM {
         } else if self.writer.is_none() && self.readers.is_empty() && self.queue.is_empty() {
             Reply::Ok
         } else {
-            self.would_wait()
+            waiting_reply(self.stopped)
         }
     }
 
@@ -167,17 +166,6 @@ impl RwM {
             Reply::Ok
         } else {
             Reply::NotOwner
-        }
-    }
-
-    /// The reply of a call that has to wait.
-    fn would_wait(&self) -> Reply
-        ensures { result ≡ waiting_reply self.now.state.stopped }
-    {
-        if self.stopped {
-            Reply::Stopped
-        } else {
-            Reply::Wait
         }
     }
 

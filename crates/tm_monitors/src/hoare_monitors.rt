@@ -1,6 +1,5 @@
 ghost use Rattle.std.specs.Prelude.{◌≡◌, ◌≤◌, ◌<◌, true, false, Some, None, IfOk};
 ghost use Rattle.tm_base.specs.Machines.{Answers, CanStep, Steps, fresh};
-ghost use Rattle.tm_base.specs.TableRows.{waiting_reply};
 ghost use Rattle.tm_monitors.specs.HoareMonitors.{heir_in_hoare, hoare_after};
 
 use crate::monitor_queues::MonitorQueues;
@@ -8,7 +7,7 @@ use crate::urgent_stacks::UrgentStack;
 use std::alloc::Global;
 use std::marker::Model;
 use tm_base::{Kind, MOST_THREADS, Machine, NoMemory, Op, Reply};
-use tm_queues::Grants;
+use tm_queues::{Grants, waiting_reply};
 
 /// The monitor of Hoare: one thread inside, and a signal that lets a waiter in at once, while the signaller
 /// waits on the urgent stack. Contracts see it as the object that it is.
@@ -50,17 +49,6 @@ impl HoareM {
             grants,
             stopped: false,
         })
-    }
-
-    /// The reply of a call that would wait.
-    fn waiting_reply(&self) -> Reply
-        ensures { result ≡ waiting_reply self.now.state.stopped }
-    {
-        if self.stopped {
-            Reply::Stopped
-        } else {
-            Reply::Wait
-        }
     }
 
     /// Lets the newest signaller in, or the oldest at the entrance where no signaller waits, or frees the
@@ -146,7 +134,7 @@ impl HoareM {
     {
         match self.inside {
             Some(inside) if inside == thread => Reply::Held,
-            Some(_) => self.waiting_reply(),
+            Some(_) => waiting_reply(self.stopped),
             None => Reply::Ok,
         }
     }
@@ -169,7 +157,7 @@ impl HoareM {
         ensures { Answers self.now thread (Op.Wait condition) result }
     {
         match self.inside {
-            Some(inside) if inside == thread => self.waiting_reply(),
+            Some(inside) if inside == thread => waiting_reply(self.stopped),
             _ => Reply::NotOwner,
         }
     }

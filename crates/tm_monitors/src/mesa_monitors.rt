@@ -1,13 +1,12 @@
 ghost use Rattle.std.specs.Prelude.{◌≡◌, ◌≤◌, ◌<◌, true, false, Some, None, IfOk};
 ghost use Rattle.tm_base.specs.Machines.{Answers, CanStep, Steps, fresh};
-ghost use Rattle.tm_base.specs.TableRows.{waiting_reply};
 ghost use Rattle.tm_monitors.specs.MesaMonitors.{mesa_after};
 
 use crate::monitor_queues::MonitorQueues;
 use std::alloc::Global;
 use std::marker::Model;
 use tm_base::{Kind, MOST_THREADS, Machine, NoMemory, Op, Reply};
-use tm_queues::Grants;
+use tm_queues::{Grants, waiting_reply};
 
 /// The monitor of Mesa: one thread inside, and a signal that only lets a waiter come to the entrance again.
 /// Contracts see it as the object that it is.
@@ -46,17 +45,6 @@ impl MesaM {
             grants,
             stopped: false,
         })
-    }
-
-    /// The reply of a call that would wait.
-    fn waiting_reply(&self) -> Reply
-        ensures { result ≡ waiting_reply self.now.state.stopped }
-    {
-        if self.stopped {
-            Reply::Stopped
-        } else {
-            Reply::Wait
-        }
     }
 
     /// Lets the oldest at the entrance in, or frees the monitor where nobody stands there.
@@ -135,7 +123,7 @@ impl MesaM {
     {
         match self.inside {
             Some(inside) if inside == thread => Reply::Held,
-            Some(_) => self.waiting_reply(),
+            Some(_) => waiting_reply(self.stopped),
             None => Reply::Ok,
         }
     }
@@ -158,7 +146,7 @@ impl MesaM {
         ensures { Answers self.now thread (Op.Wait condition) result }
     {
         match self.inside {
-            Some(inside) if inside == thread => self.waiting_reply(),
+            Some(inside) if inside == thread => waiting_reply(self.stopped),
             _ => Reply::NotOwner,
         }
     }

@@ -3,6 +3,7 @@
 #![tactic(auto)]
 
 mod faults;
+mod gates;
 mod memory_sink;
 mod memory_source;
 mod reading;
@@ -12,6 +13,7 @@ mod standard;
 mod writing;
 
 pub use faults::Failed;
+pub use gates::{Gate, NoGate};
 pub use memory_sink::MemorySink;
 pub use memory_source::MemorySource;
 pub use reading::{ReadFault, read_all};

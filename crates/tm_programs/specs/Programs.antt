@@ -1,5 +1,5 @@
 -- What programs of exercises are, and what they ask.
-use Rattle.std.specs.Prelude.{ℕ, zero, suc, ℤ, pos, ◌+ℤ◌, Bool, true, false, not, ◌&&◌, int_lt, int_le, if◌then◌else◌, List, [], ◌∷◌, replicate, slice_index_or, slice_set, Option, Some, None}
+use Rattle.std.specs.Prelude.{ℕ, zero, suc, ℤ, pos, ◌+ℤ◌, Bool, true, false, not, ◌&&◌, int_lt, int_le, if◌then◌else◌, List, replicate, slice_index_or, slice_set, Option, Some, None}
 use Rattle.std.specs.Int.{w64, saturate_signed}
 use Rattle.tm_base.specs.declared.operations.Op.{Op}
 use Rattle.tm_base.specs.declared.opcodes.Opcode.{Opcode}
@@ -153,11 +153,6 @@ answered rest answer =
     let after : Remainder = left_after rest.last rest.program rest.registers answer in
     record { program = after.program; registers = after.registers; last = Some answer }
 
--- What is left after the reply of `begin` and the final replies of the calls so far.
-abbrev pub rest_after : Rest → List Reply → Rest
-rest_after rest [] = rest
-rest_after rest (r ∷ replies) = rest_after (answered rest r) replies
-
 -- What a program asks that begins with a call or is over: that call, with its operand's value, or nothing
 -- more.
 abbrev pub next_ask : Program → List ℤ → Ask
@@ -172,7 +167,3 @@ is_stopped r = false
 -- What a program asks of which this is left; after the reply `stopped` nothing at all.
 abbrev pub asked_of : Rest → Option Ask
 asked_of rest = if is_stopped rest.last then None else Some (next_ask rest.program rest.registers)
-
--- What a program asks after the final reply of `begin` and those of its calls so far.
-abbrev pub asked : Program → List Reply → Option Ask
-asked program replies = asked_of (rest_after (whole program) replies)

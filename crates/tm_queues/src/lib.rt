@@ -7,11 +7,13 @@ mod granted_replies;
 mod valued_queues;
 mod wait_queues;
 mod wait_states;
+mod waiting_replies;
 
 pub use granted_replies::Grants;
 pub use valued_queues::ValuedQueue;
 pub use wait_queues::WaitQueue;
 pub use wait_states::WaitState;
+pub use waiting_replies::waiting_reply;
 
 #[cfg(test)]
 mod tests {

@@ -1,10 +1,11 @@
 ghost use Rattle.std.specs.Prelude.{◌≡◌, ◌≤◌, ◌+◌, ◌++◌, ◌∷◌, [], Some, None, true, false, length, IfOk, IfNone, OnSome, slice_get, slice_set, slice_index_or};
 ghost use Rattle.tm_base.specs.States.{is_queued};
-ghost use Rattle.tm_base.specs.TableRows.{waiting_reply};
+ghost use Rattle.tm_base.specs.TableRows.{waiting_reply as reply_while};
 ghost use Rattle.tm_queues.specs.WaitStates.{WaitsAt, GrantsHead, nobody_waiting, served, all_granted, is_pending_in, stopped_waits};
 
 use crate::granted_replies::Grants;
 use crate::wait_queues::WaitQueue;
+use crate::waiting_replies::waiting_reply;
 use std::alloc::Global;
 use std::marker::Model;
 use tm_base::{MOST_THREADS, NoMemory, Reply};
@@ -71,13 +72,9 @@ impl WaitState {
 
     /// The reply that `wait` would give now.
     pub fn would_wait(&self) -> Reply
-        ensures { result ≡ waiting_reply self.now.stopped }
+        ensures { result ≡ reply_while self.now.stopped }
     {
-        if self.stopped {
-            Reply::Stopped
-        } else {
-            Reply::Wait
-        }
+        waiting_reply(self.stopped)
     }
 
     /// The oldest in the queue.

@@ -3,7 +3,8 @@ use Rattle.std.proofs.Common.{◌≡◌, ◌≢◌, ℕ, ◌+◌, ◌≤◌, ⊎
 use Rattle.tm_base.specs.declared.events.Entry.{Entry}
 use Rattle.tm_text.specs.Exercises.{ExerciseView}
 use Rattle.tm_replay.specs.JointStates.{JointState, ThreadState, ObjectState}
-use Rattle.tm_replay.specs.JointSteps.{JointStep, stepped, entered, is_call}
+use Rattle.tm_base.specs.Fits.{is_call}
+use Rattle.tm_replay.specs.JointSteps.{JointStep, stepped, entered}
 use Rattle.tm_replay.specs.Work.{IsCounted}
 use Rattle.tm_replay.proofs.Lists.{slice_get-set_cases}
 

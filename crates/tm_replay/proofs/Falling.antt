@@ -18,7 +18,8 @@ use Rattle.tm_programs.specs.Programs.{Rest, next_ask}
 use Rattle.tm_replay.specs.declared.phases.Phase.{Phase}
 use Rattle.tm_replay.specs.declared.phases.Phase.TheVariants as phase
 use Rattle.tm_replay.specs.JointStates.{JointState, ThreadState, ObjectState}
-use Rattle.tm_replay.specs.JointSteps.{JointStep, is_call, stepped, entered, phase_by, phase_after}
+use Rattle.tm_base.specs.Fits.{is_call}
+use Rattle.tm_replay.specs.JointSteps.{JointStep, stepped, entered, phase_by, phase_after}
 use Rattle.tm_replay.specs.SoundStates.{IsSoundJoint, is_main}
 use Rattle.tm_replay.specs.Work.{work_in, work_of, stop_of, work}
 use Rattle.tm_replay.proofs.Moves.{Does, begins, ends, calls, resumes, Becomes, finished, waiting, freed, asked-called}

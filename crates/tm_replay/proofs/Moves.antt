@@ -10,7 +10,7 @@ use Rattle.tm_base.specs.declared.asks.Ask.{Ask}
 use Rattle.tm_base.specs.declared.asks.Ask.TheVariants as ask
 use Rattle.tm_base.specs.declared.opcodes.Opcode.{Opcode}
 use Rattle.tm_base.specs.declared.opcodes.Opcode.TheVariants as opcode
-use Rattle.tm_base.specs.Fits.{fits}
+use Rattle.tm_base.specs.Fits.{fits, is_call}
 use Rattle.tm_base.specs.Opcodes.{op_with}
 use Rattle.tm_laws.specs.Counts.{is_wait}
 use Rattle.tm_laws.specs.Tidy.{is_stop}
@@ -22,7 +22,7 @@ use Rattle.tm_text.specs.Exercises.{ExerciseView, is_asked, is_call_of, is_call_
 use Rattle.tm_programs.specs.Programs.{Program, Call, Rest, answered, condition_of, is_stopped, next_ask, op_of, value_of}
 use Rattle.tm_replay.specs.declared.phases.Phase.{Phase}
 use Rattle.tm_replay.specs.declared.phases.Phase.TheVariants as phase
-use Rattle.tm_replay.specs.JointSteps.{MayIn, MayAsk, is_call, phase_by, rest_by}
+use Rattle.tm_replay.specs.JointSteps.{MayIn, MayAsk, phase_by, rest_by}
 use Rattle.tm_replay.specs.SoundStates.{is_main}
 
 -- a program thread begins or ends on its own object, makes the call that its program asks, or resumes

@@ -7,7 +7,7 @@ use Rattle.tm_base.specs.declared.operations.Op.TheVariants as op
 use Rattle.tm_base.specs.declared.kinds.Kind.{Kind}
 use Rattle.tm_base.specs.declared.kinds.Kind.TheVariants as kind
 use Rattle.tm_base.specs.declared.bars.Bar.TheVariants as bar
-use Rattle.tm_base.specs.Fits.{fits}
+use Rattle.tm_base.specs.Fits.{fits, is_call}
 use Rattle.tm_base.specs.States.{KindState, ThreadObjectState, grant_of, is_pending, is_waiting}
 use Rattle.tm_base.specs.Machines.{ObjectView, IsInTurn, CanStep, is_step}
 use Rattle.tm_base.specs.Histories.{CanAnswer}
@@ -19,7 +19,7 @@ use Rattle.tm_text.proofs.Owns.{own_of-found, own_of-below}
 use Rattle.tm_replay.specs.declared.phases.Phase.{Phase}
 use Rattle.tm_replay.specs.declared.phases.Phase.TheVariants as phase
 use Rattle.tm_replay.specs.JointStates.{JointState, ThreadState, ObjectState}
-use Rattle.tm_replay.specs.JointSteps.{May, is_call}
+use Rattle.tm_replay.specs.JointSteps.{May}
 use Rattle.tm_replay.specs.Bars.{bar_of, bar_in, bar_for, is_runnable, waits_in}
 use Rattle.tm_replay.specs.RunnableThreads.{IsAnswerable}
 use Rattle.tm_replay.specs.SoundStates.{is_main, IsSoundJoint, IsObjectStateOf, IsAmong, is_begun, is_past, waits_at}

@@ -8,6 +8,7 @@ use Rattle.tm_base.specs.declared.replies.Reply.TheVariants as reply
 use Rattle.tm_base.specs.declared.asks.Ask.{Ask}
 use Rattle.tm_base.specs.declared.asks.Ask.TheVariants as ask
 use Rattle.tm_base.specs.declared.events.Entry.{Entry}
+use Rattle.tm_base.specs.Fits.{is_call}
 use Rattle.tm_base.specs.States.{State}
 use Rattle.tm_base.specs.Machines.{changed}
 use Rattle.tm_base.specs.Histories.{Lawful}
@@ -17,14 +18,6 @@ use Rattle.tm_programs.specs.Programs.{Rest, answered, asked_of}
 use Rattle.tm_replay.specs.declared.phases.Phase.{Phase}
 use Rattle.tm_replay.specs.declared.phases.Phase.TheVariants as phase
 use Rattle.tm_replay.specs.JointStates.{JointState, ThreadState, ObjectState, start}
-
--- A call is what a program asks: none of `begin`, `end`, `resume` and `stop`.
-abbrev pub is_call : Op → Bool
-is_call op.Begin = false
-is_call (op.End cut) = false
-is_call op.Resume = false
-is_call op.Stop = false
-is_call o = true
 
 -- What a free thread may do whose program asks this: the call, or an end that cuts it short; where the
 -- program is over, its end; and where it asks nothing at all, an end that is cut.

@@ -18,7 +18,8 @@ use Rattle.tm_replay.specs.declared.phases.Phase.{Phase}
 use Rattle.tm_replay.specs.declared.phases.Phase.TheVariants as phase
 use Rattle.tm_replay.specs.JointStates.{JointState, ThreadState, start, first_thread_state, unbegun}
 use Rattle.tm_programs.specs.Programs.{Over}
-use Rattle.tm_replay.specs.JointSteps.{MayIn, MayAsk, JointStep, IsJointRun, is_call, phase_after, phase_by, rest_by, stepped}
+use Rattle.tm_base.specs.Fits.{is_call}
+use Rattle.tm_replay.specs.JointSteps.{MayIn, MayAsk, JointStep, IsJointRun, phase_after, phase_by, rest_by, stepped}
 use Rattle.tm_replay.specs.Bars.{bars_of, is_stuck, waited_objects}
 use Rattle.tm_replay.specs.Ends.{IsEndedRun, WasStuck, is_cut_phase, is_cut_by_limit, is_more}
 use Rattle.tm_replay.proofs.Lists.{slice_get-set_cases}

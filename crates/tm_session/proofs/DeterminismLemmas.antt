@@ -12,7 +12,8 @@ use Rattle.tm_programs.specs.Programs.{is_stopped, next_ask}
 use Rattle.tm_replay.specs.declared.phases.Phase.{Phase}
 use Rattle.tm_replay.specs.declared.phases.Phase.TheVariants as phase
 use Rattle.tm_replay.specs.JointStates.{JointState, ThreadState}
-use Rattle.tm_replay.specs.JointSteps.{MayIn, MayAsk, JointStep, is_call}
+use Rattle.tm_base.specs.Fits.{is_call}
+use Rattle.tm_replay.specs.JointSteps.{MayIn, MayAsk, JointStep}
 use Rattle.tm_replay.specs.Bars.{bars_of, is_over}
 use Rattle.tm_replay.specs.SoundStates.{is_main}
 use Rattle.tm_session.specs.declared.rules.Rules.{Rules}

@@ -5,7 +5,7 @@ use Rattle.tm_base.specs.declared.operations.Op.TheVariants as op
 use Rattle.tm_base.specs.declared.replies.Reply.{Reply}
 use Rattle.tm_base.specs.declared.asks.Ask.{Ask}
 use Rattle.tm_programs.specs.Programs.{Rest, asked_of, is_stopped, next_ask}
-use Rattle.tm_replay.specs.JointSteps.{is_call}
+use Rattle.tm_base.specs.Fits.{is_call}
 use Rattle.tm_session.specs.Seats.{IsWithin}
 
 -- a call is within the limit where calls may be made

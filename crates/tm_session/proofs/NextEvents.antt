@@ -12,7 +12,8 @@ use Rattle.tm_programs.specs.Programs.{is_stopped, next_ask}
 use Rattle.tm_replay.specs.declared.phases.Phase.{Phase}
 use Rattle.tm_replay.specs.declared.phases.Phase.TheVariants as phase
 use Rattle.tm_replay.specs.JointStates.{JointState, ThreadState, ObjectState}
-use Rattle.tm_replay.specs.JointSteps.{MayIn, MayAsk, JointStep, is_call, entered, stepped}
+use Rattle.tm_base.specs.Fits.{is_call}
+use Rattle.tm_replay.specs.JointSteps.{MayIn, MayAsk, JointStep, entered, stepped}
 use Rattle.tm_replay.specs.Bars.{bars_of, is_over}
 use Rattle.tm_replay.proofs.Lists.{found_at}
 use Rattle.tm_session.specs.declared.next_calls.NextCall.{NextCall}

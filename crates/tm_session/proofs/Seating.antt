@@ -15,7 +15,8 @@ use Rattle.tm_laws.proofs.Begun.{End-plain}
 use Rattle.tm_programs.specs.Programs.{Rest}
 use Rattle.tm_replay.specs.declared.phases.Phase.{Phase}
 use Rattle.tm_replay.specs.declared.phases.Phase.TheVariants as phase
-use Rattle.tm_replay.specs.JointSteps.{is_call, phase_after, phase_by}
+use Rattle.tm_base.specs.Fits.{is_call}
+use Rattle.tm_replay.specs.JointSteps.{phase_after, phase_by}
 use Rattle.tm_replay.specs.SoundStates.{is_main}
 use Rattle.tm_replay.proofs.Moves.{Does, begins, ends, calls, resumes}
 use Rattle.tm_session.specs.Seats.{AsksCalls, waits_of}

@@ -8,7 +8,8 @@ use Rattle.tm_base.specs.Runs.{Leads}
 use Rattle.tm_laws.proofs.RunsLemmas.{Leads-keeps}
 use Rattle.tm_text.specs.Exercises.{ExerciseView, IsWellFormed}
 use Rattle.tm_replay.specs.JointStates.{JointState, ObjectState, ThreadState}
-use Rattle.tm_replay.specs.JointSteps.{JointStep, IsJointRun, entered, is_call}
+use Rattle.tm_base.specs.Fits.{is_call}
+use Rattle.tm_replay.specs.JointSteps.{JointStep, IsJointRun, entered}
 use Rattle.tm_replay.specs.SoundStates.{IsSoundJoint}
 use Rattle.tm_replay.specs.Work.{IsCounted, work}
 use Rattle.tm_replay.proofs.JointStartLemmas.{IsSoundJoint-start}

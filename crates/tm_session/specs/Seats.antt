@@ -9,7 +9,7 @@ use Rattle.tm_programs.specs.Programs.{Rest, is_stopped, next_ask}
 use Rattle.tm_replay.specs.declared.phases.Phase.{Phase}
 use Rattle.tm_replay.specs.declared.phases.Phase.TheVariants as phase
 use Rattle.tm_replay.specs.JointStates.{ThreadState}
-use Rattle.tm_replay.specs.JointSteps.{is_call}
+use Rattle.tm_base.specs.Fits.{is_call}
 
 -- A program thread that hasn't ended.
 abbrev pub GoesOn : Phase → Type 0

@@ -7,7 +7,8 @@ use Rattle.tm_base.specs.Runs.{Leads}
 use Rattle.tm_text.specs.Exercises.{ExerciseView}
 use Rattle.tm_programs.specs.Programs.{is_stopped}
 use Rattle.tm_replay.specs.JointStates.{JointState, ThreadState, start}
-use Rattle.tm_replay.specs.JointSteps.{JointStep, is_call}
+use Rattle.tm_base.specs.Fits.{is_call}
+use Rattle.tm_replay.specs.JointSteps.{JointStep}
 use Rattle.tm_replay.specs.Bars.{bars_of, is_over, is_stuck, waited_objects}
 use Rattle.tm_session.specs.declared.rules.Rules.{Rules}
 use Rattle.tm_session.specs.Choices.{chosen_thread, draw_after}
