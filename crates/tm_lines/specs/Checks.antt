@@ -3,7 +3,7 @@ use Rattle.std.specs.Prelude.{◌≡◌, ℕ, ◌+◌, Bool, true, false, List, 
 use Rattle.tm_base.specs.declared.kinds.Kind.{Kind}
 use Rattle.tm_lines.specs.declared.saying.Line.{Line}
 use Rattle.tm_lines.specs.declared.saying.Line.TheVariants as line
-use Rattle.tm_lines.specs.declared.faults.TextFault.{TextFault}
+use Rattle.tm_lines.specs.declared.faults.FaultyLine.{FaultyLine}
 use Rattle.tm_lines.specs.Lines.{is_ignored, words_of}
 use Rattle.tm_lines.specs.LineFaults.{Place, fault_of_line, first_place, place_by}
 use Rattle.tm_lines.specs.Saying.{IsSaid}
@@ -26,7 +26,7 @@ abbrev pub before : List ℕ → Check
 before text = record { text = text; number = 1; place = first_place; rest = text }
 
 -- The first faulty line of those that are left.
-abbrev pub fault_left : Check → Option TextFault
+abbrev pub fault_left : Check → Option FaultyLine
 fault_left k = first_fault_from (named_in (text_lines k.text)) k.number k.place (text_lines k.rest)
 
 -- What the line is that stands at this place and has this number: ignored; faulty; or one that says something,
@@ -40,7 +40,7 @@ IsLine named n p bytes (line.Faulty fault) after =
 
 -- The first fault of those that were left: that of the line, where it has one, and else the first of those that
 -- are left after it.
-abbrev pub fault_after : Line → Check → Option TextFault
+abbrev pub fault_after : Line → Check → Option FaultyLine
 fault_after (line.Faulty fault) k = Some fault
 fault_after other k = fault_left k
 

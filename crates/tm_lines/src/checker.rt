@@ -2,7 +2,7 @@ ghost use Rattle.std.specs.Prelude.{◌≡◌, false, true, IfOk};
 ghost use Rattle.tm_lines.specs.Checks.{Follows, before, fault_left, is_empty};
 ghost use Rattle.tm_lines.specs.TextFaults.{first_fault};
 
-use crate::faults::{Fault, TextFault};
+use crate::faults::{Fault, FaultyLine};
 use crate::limits::MOST_BYTES;
 use crate::lines::{first_line, without_cr};
 use crate::names::Names;
@@ -73,7 +73,7 @@ impl<'a> Checker<'a> {
     }
 
     /// The first fault of the lines that are left, and of the end.
-    pub fn fault_left(&mut self) -> Option<TextFault>
+    pub fn fault_left(&mut self) -> Option<FaultyLine>
         ensures { result ≡ fault_left self.old }
     {
         while !self.is_done() {
@@ -87,12 +87,12 @@ impl<'a> Checker<'a> {
     }
 
     /// What is wrong after the last line.
-    pub fn at_end(&self) -> Option<TextFault>
+    pub fn at_end(&self) -> Option<FaultyLine>
         requires { is_empty self.now.rest ≡ true }
         ensures { result ≡ fault_left self.now }
     {
         if self.place.is_inside() {
-            Some(TextFault {
+            Some(FaultyLine {
                 line: self.number,
                 kind: Fault::NotEnded,
             })
@@ -103,11 +103,11 @@ impl<'a> Checker<'a> {
 }
 
 /// The first faulty line of the text, with what is wrong with it; the line is 0 where the text is too long.
-pub fn first_fault(alloc: Global, text: &[u8]) -> Result<Option<TextFault>, NoMemory>
+pub fn first_fault(alloc: Global, text: &[u8]) -> Result<Option<FaultyLine>, NoMemory>
     ensures { IfOk result (λ fault. fault ≡ first_fault text.now) }
 {
     if MOST_BYTES < text.len() {
-        return Ok(Some(TextFault {
+        return Ok(Some(FaultyLine {
             line: 0,
             kind: Fault::Size,
         }));

@@ -57,7 +57,7 @@ impl Fault {
 
 /// The first faulty line of a text, and what is wrong with it.
 #[derive(Clone, Copy, Debug, PartialEq, Eq)]
-pub struct TextFault {
+pub struct FaultyLine {
     /// The number of the line, from 1; 0 where the text is too long.
     pub line: u64,
     pub kind: Fault,

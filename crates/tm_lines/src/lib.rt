@@ -19,7 +19,7 @@ mod tests;
 mod words;
 
 pub use checker::{Checker, first_fault};
-pub use faults::{Fault, TextFault};
+pub use faults::{Fault, FaultyLine};
 pub use first_words::{Declarator, FirstWord, Slot};
 pub use laws::{fault_words_are_distinct, spellings_read_back};
 pub use limits::{

@@ -9,7 +9,7 @@ ghost use Rattle.tm_lines.specs.TextFaults.{named_in, text_lines};
 ghost use Rattle.tm_lines.specs.Checks.{IsLine};
 ghost use Rattle.tm_lines.specs.Saying.{HasRoom};
 
-use crate::faults::{Fault, TextFault};
+use crate::faults::{Fault, FaultyLine};
 use crate::first_words::FirstWord;
 use crate::found::Found;
 use crate::lines::{first_word, is_printed};
@@ -56,7 +56,7 @@ impl<'a> Place<'a> {
                         self.go_on(first, second);
                         Line::Said(Said { first, rest })
                     }
-                    Err(kind) => Line::Faulty(TextFault { line: number, kind }),
+                    Err(kind) => Line::Faulty(FaultyLine { line: number, kind }),
                 }
             }
         }

@@ -1,4 +1,4 @@
-use crate::faults::TextFault;
+use crate::faults::FaultyLine;
 use crate::first_words::FirstWord;
 
 /// What a line says that has no fault: its first word, and what follows it.
@@ -15,5 +15,5 @@ pub enum Line<'a> {
     /// It has no fault, and says this.
     Said(Said<'a>),
     /// It has this fault.
-    Faulty(TextFault),
+    Faulty(FaultyLine),
 }

@@ -7,7 +7,7 @@ use Rattle.std.specs.Prelude.{nat_lt}
 use Rattle.std.proofs.lemmas.Bool.{cases_lt, cond-true, lt-ltb}
 use Rattle.tm_outside.specs.Taking.{TakesFirst}
 use Rattle.tm_lines.specs.declared.limits.TheConstants.{MOST_BYTES}
-use Rattle.tm_lines.specs.declared.faults.TextFault.{TextFault}
+use Rattle.tm_lines.specs.declared.faults.FaultyLine.{FaultyLine}
 use Rattle.tm_lines.specs.declared.faults.Fault.{Fault}
 use Rattle.tm_lines.specs.declared.faults.Fault.TheVariants as fault
 use Rattle.tm_text.specs.declared.text_faults.TextFault.{TextFault as Why}
@@ -37,7 +37,7 @@ take_whole : (n : ℕ) (xs : List ℕ) → length (take n xs) < n → take n xs 
 take_whole n xs short = take_whole_by n xs short (cases_lt (length xs) n)
 
 -- what is wrong with the first bytes is what is wrong with all
-pub fault_of_all : (n : ℕ) (old new : Option (List ℕ)) (bytes : List ℕ) (r : Option TextFault) → MOST_BYTES < n → TakesFirst n old new bytes → first_fault bytes ≡ r → IfSome old (λ all. first_fault all ≡ r)
+pub fault_of_all : (n : ℕ) (old new : Option (List ℕ)) (bytes : List ℕ) (r : Option FaultyLine) → MOST_BYTES < n → TakesFirst n old new bytes → first_fault bytes ≡ r → IfSome old (λ all. first_fault all ≡ r)
 fault_of_all n None new bytes r limit taken first = tt
 fault_of_all n (Some old) None bytes r limit taken first = absurd taken
 fault_of_all n (Some old) (Some new) bytes r limit taken first = by_size (cases_lt (length old) n)
@@ -58,7 +58,7 @@ exercise_of_all n (Some old) (Some new) bytes x limit taken text =
     subst P (take_whole n old (omega (arith, limit, not_too_long (take n old) first.faultless))) first
 
 -- a line that is named is the first faulty one
-pub refuses-line : {X : Type 0} (r : Result X Why) (found : Option TextFault) (line : ℕ) (kind : Fault) → IfErr r (λ why. Refuses why found) → r ≡ Err (why.Line line kind) → found ≡ Some (record { line = line; kind = kind })
+pub refuses-line : {X : Type 0} (r : Result X Why) (found : Option FaultyLine) (line : ℕ) (kind : Fault) → IfErr r (λ why. Refuses why found) → r ≡ Err (why.Line line kind) → found ≡ Some (record { line = line; kind = kind })
 refuses-line (Ok x) found line kind h e = absurd cc
 refuses-line (Err (why.Line l k)) found line kind h e = let same : l ≡ line = cc in let also : k ≡ kind = cc in cc
 refuses-line (Err why.NoMemory) found line kind h e = absurd cc

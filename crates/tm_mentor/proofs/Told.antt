@@ -7,7 +7,7 @@ use Rattle.tm_base.specs.declared.ends.End.{End}
 use Rattle.tm_base.specs.declared.ends.End.TheVariants.{Done, Stuck, Budget}
 use Rattle.tm_outside.specs.Appending.{Appends}
 use Rattle.tm_outside.specs.Faults.{next_count, Rose}
-use Rattle.tm_lines.specs.declared.faults.TextFault.{TextFault}
+use Rattle.tm_lines.specs.declared.faults.FaultyLine.{FaultyLine}
 use Rattle.tm_lines.specs.TextFaults.{first_fault}
 use Rattle.tm_text.specs.Exercises.{ExerciseView}
 use Rattle.tm_text.specs.Texts.{IsExercise}
@@ -46,12 +46,12 @@ status_by (Ran f) = run_status_by f.write_fault f.end
 status_by NoMemory = (7, lit< tt, refl)
 
 -- a text of an exercise has no fault
-fault_told : (left : Option (List ℕ)) (x : ExerciseView) (fault : TextFault) → IfSome left (λ bytes. first_fault bytes ≡ Some fault) → IsSomeAnd left (λ bytes. IsExercise bytes x) → ⊥
+fault_told : (left : Option (List ℕ)) (x : ExerciseView) (fault : FaultyLine) → IfSome left (λ bytes. first_fault bytes ≡ Some fault) → IsSomeAnd left (λ bytes. IsExercise bytes x) → ⊥
 fault_told None x fault first told = told
 fault_told (Some bytes) x fault first told = let e = sym told.faultless ∙ first in cc
 
 -- a text with a fault is that of no exercise
-pub faulty_none : (left : Option (List ℕ)) (fault : TextFault) → IfSome left (λ bytes. first_fault bytes ≡ Some fault) → IfSome left IsNoExercise
+pub faulty_none : (left : Option (List ℕ)) (fault : FaultyLine) → IfSome left (λ bytes. first_fault bytes ≡ Some fault) → IfSome left IsNoExercise
 faulty_none None fault first = tt
 faulty_none (Some bytes) fault first = λ x told. let e = sym told.faultless ∙ first in cc
 

@@ -4,7 +4,7 @@ use Rattle.std.specs.declared.alloc.Global.{Global}
 use Rattle.tm_outside.specs.Faults.{next_count}
 use Rattle.tm_outside.specs.Taking.{TakesAtMost, IsAtEnd}
 use Rattle.tm_text.specs.Exercises.{ExerciseView, IsWellFormed}
-use Rattle.tm_lines.specs.declared.faults.TextFault.{TextFault}
+use Rattle.tm_lines.specs.declared.faults.FaultyLine.{FaultyLine}
 use Rattle.tm_lines.specs.TextFaults.{first_fault}
 use Rattle.tm_text.specs.Texts.{IsExercise}
 use Rattle.tm_session.specs.declared.rules.Rules.{Rules}
@@ -32,7 +32,7 @@ pub record IsUnspelled (words : List (String Global)) (old new : Input) : Type 0
   pub steady : new.faults ≡ old.faults
 
 -- The source has no fault, and this is the first fault of all the bytes that it had left, where it tells them.
-pub record HasTextFault (words : List (String Global)) (old new : Input) (fault : TextFault) : Type 0 where
+pub record HasFaultyLine (words : List (String Global)) (old new : Input) (fault : FaultyLine) : Type 0 where
   pub rules : Rules
   pub spelled : SpellsRun words rules
   pub taken : ReadsAtMost old.left new.left
@@ -49,7 +49,7 @@ pub record HasReadFault (words : List (String Global)) (old new : Input) : Type 
 -- Why nothing is run.
 abbrev pub IsCause : Refusal → List (String Global) → Input → Input → Type 0
 IsCause Usage words old new = IsUnspelled words old new
-IsCause (Text fault) words old new = HasTextFault words old new fault
+IsCause (Text fault) words old new = HasFaultyLine words old new fault
 IsCause ReadFault words old new = HasReadFault words old new
 
 -- The words spell a run under these rules. The source was read to its end with no fault. The exercise is

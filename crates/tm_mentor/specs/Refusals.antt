@@ -1,13 +1,13 @@
 -- What a refusal says.
 use Rattle.std.specs.Prelude.{ℕ, List, [], ◌∷◌, ◌++◌, codes}
 use Rattle.std.specs.Fmt.{decimal}
-use Rattle.tm_lines.specs.declared.faults.TextFault.{TextFault}
+use Rattle.tm_lines.specs.declared.faults.FaultyLine.{FaultyLine}
 use Rattle.tm_lines.specs.FaultWords.{fault_word}
 use Rattle.tm_mentor.specs.declared.refusals.Refusal.{Refusal}
 use Rattle.tm_mentor.specs.declared.refusals.Refusal.TheVariants.{Usage, Text, ReadFault}
 
 -- The line of a text's first fault: the number of the line, and the word of what is wrong with it.
-abbrev pub fault_line : TextFault → List ℕ
+abbrev pub fault_line : FaultyLine → List ℕ
 fault_line fault = codes "mentor: line " ++ decimal fault.line ++ codes ": " ++ fault_word fault.kind ++ 10 ∷ []
 
 -- Its line.

@@ -6,7 +6,7 @@ ghost use Rattle.tm_mentor.specs.Found.{HasCommand, IsCommandError, ReadsAtMost}
 use crate::command_line::spell_run;
 use crate::refusals::Refusal;
 use std::alloc::Global;
-use tm_lines::MOST_BYTES;
+use tm_lines::{FaultyLine, MOST_BYTES};
 use tm_outside::{ReadFault, Source, read_all};
 use tm_session::Rules;
 use tm_text::{Exercise, TextFault, read};
@@ -54,7 +54,7 @@ pub(crate) fn read_command<S: Source>(
     match read(alloc, bytes.as_slice()) {
         Ok(exercise) => Ok(Command { exercise, rules }),
         Err(TextFault::Line { line, kind }) => {
-            Err(CommandError::Refused(Refusal::Text(tm_lines::TextFault { line, kind })))
+            Err(CommandError::Refused(Refusal::Text(FaultyLine { line, kind })))
         }
         Err(TextFault::NoMemory) => Err(CommandError::NoMemory),
     }

@@ -1,12 +1,12 @@
 ghost use Rattle.std.specs.Prelude.{◌≡◌, ◌≤◌, IfOk, IsErr};
-ghost use Rattle.tm_lines.specs.declared.faults.TextFault.{TextFault as FirstFault};
+ghost use Rattle.tm_lines.specs.declared.faults.FaultyLine.{FaultyLine as FirstFault};
 ghost use Rattle.tm_mentor.specs.Outcomes.{Sends};
 ghost use Rattle.tm_mentor.specs.Outside.{output_of};
 ghost use Rattle.tm_mentor.specs.Refusals.{fault_line, line_of, status_of};
 
 use std::alloc::Global;
 use tm_base::NoMemory;
-use tm_lines::TextFault;
+use tm_lines::FaultyLine;
 use tm_outside::{Sink, write_all};
 
 /// Why a command runs nothing.
@@ -15,7 +15,7 @@ pub enum Refusal {
     /// The words spell no run.
     Usage,
     /// What was read is the text of no exercise: its first faulty line, and what is wrong with it.
-    Text(TextFault),
+    Text(FaultyLine),
     /// The source failed.
     ReadFault,
 }
@@ -53,7 +53,7 @@ fn fails<K: Sink>(sink: &mut K, bytes: &[u8]) -> bool
 }
 
 /// The line of a text's first fault.
-fn fault_line(alloc: Global, fault: TextFault) -> Result<Vec<u8>, NoMemory>
+fn fault_line(alloc: Global, fault: FaultyLine) -> Result<Vec<u8>, NoMemory>
     ensures { IfOk result (λ line. line.items ≡ fault_line fault) }
 {
     let mut line = Vec::from_slice(alloc, b"mentor: line ")?;

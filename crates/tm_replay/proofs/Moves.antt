@@ -1,25 +1,23 @@
 -- What a program thread's event is, and what it makes of the thread.
-use Rattle.std.proofs.Common.{◌≡◌, ℕ, ℤ, pos, Bool, true, false, ◌&&◌, inl, inr, List, Option, Some, None, slice_get, if◌then◌else◌, refl, ap, sym, ◌∙◌, subst}
+use Rattle.std.proofs.Common.{◌≡◌, ℕ, ℤ, Bool, true, false, ◌&&◌, inl, inr, List, Option, Some, None, option_map, slice_get, if◌then◌else◌, refl, ap, sym, ◌∙◌, subst}
 use Rattle.tm_base.specs.declared.operations.Op.{Op}
 use Rattle.tm_base.specs.declared.operations.Op.TheVariants as op
 use Rattle.tm_base.specs.declared.replies.Reply.{Reply}
 use Rattle.tm_base.specs.declared.replies.Reply.TheVariants as reply
 use Rattle.tm_base.specs.declared.kinds.Kind.{Kind}
-use Rattle.tm_base.specs.declared.kinds.Kind.TheVariants as kind
 use Rattle.tm_base.specs.declared.asks.Ask.{Ask}
 use Rattle.tm_base.specs.declared.asks.Ask.TheVariants as ask
-use Rattle.tm_base.specs.declared.opcodes.Opcode.{Opcode}
-use Rattle.tm_base.specs.declared.opcodes.Opcode.TheVariants as opcode
+use Rattle.std.proofs.lemmas.Option.{slice_get-map}
+use Rattle.tm_base.specs.Bodies.{IsAskedAmong}
 use Rattle.tm_base.specs.Fits.{fits, is_call}
-use Rattle.tm_base.specs.Opcodes.{op_with}
 use Rattle.tm_laws.specs.Counts.{is_wait}
 use Rattle.tm_laws.specs.Tidy.{is_stop}
 use Rattle.tm_laws.specs.ThreadObjects.{is_begin, is_end}
 use Rattle.tm_text.specs.declared.exercises.Declaration.{Declaration}
-use Rattle.tm_programs.specs.declared.instructions.Operand.{Operand}
 use Rattle.tm_programs.specs.Calls.{AllCallsPass}
-use Rattle.tm_text.specs.Exercises.{ExerciseView, is_asked, is_call_of, is_call_on}
-use Rattle.tm_programs.specs.Programs.{Program, Call, Rest, answered, condition_of, is_stopped, next_ask, op_of, value_of}
+use Rattle.tm_text.specs.Exercises.{ExerciseView, is_call_on, kinds_of}
+use Rattle.tm_text.proofs.ScriptsLemmas.{asked_calls_fit}
+use Rattle.tm_programs.specs.Programs.{Program, Rest, answered, is_stopped, next_ask}
 use Rattle.tm_replay.specs.declared.phases.Phase.{Phase}
 use Rattle.tm_replay.specs.declared.phases.Phase.TheVariants as phase
 use Rattle.tm_replay.specs.JointSteps.{MayIn, MayAsk, phase_by, rest_by}
@@ -60,42 +58,20 @@ and_both : (a b : Bool) → (a && b) ≡ true → (a ≡ true) × (b ≡ true)
 and_both true b h = (refl, h)
 and_both false b h = absurd cc
 
--- the value of a call makes no difference to whether its object has it
-fits-value : (code : Opcode) (c : ℕ) (v w : ℤ) (k : Kind) → fits (op_with code c v) k ≡ fits (op_with code c w) k
-fits-value opcode.Send c v w kind.Sync = refl
-fits-value opcode.Send c v w (kind.Async n) = refl
-fits-value opcode.Write c v w (kind.Var n) = refl
-fits-value opcode.Add c v w (kind.Var n) = refl
-fits-value code c v w k = refl
-
--- what a program can ask is a call
-asked-call : (code : Opcode) (c : ℕ) (v : ℤ) → is_asked code ≡ true → is_call (op_with code c v) ≡ true
-asked-call opcode.Begin c v e = absurd cc
-asked-call opcode.End c v e = absurd cc
-asked-call opcode.Resume c v e = absurd cc
-asked-call opcode.Stop c v e = absurd cc
-asked-call code c v e = refl
-
-asked-of : (x : ExerciseView) (object : ℕ) (code : Opcode) (with : Operand) (registers : List ℤ) (found : Option Declaration)
-    → slice_get x.objects object ≡ found → is_call_of found code with ≡ true → IsAsked x object (op_of registers code with)
-asked-of x object code with registers None e h = absurd cc
-asked-of x object code with registers (Some d) e h =
-    let both = and_both (is_asked code) (fits (op_with code (condition_of with) (pos 0)) d.kind) h in
-    record {
-      declaration = d;
-      found = e;
-      call = asked-call code (condition_of with) (value_of registers with) both.0;
-      fit = fits-value code (condition_of with) (value_of registers with) (pos 0) d.kind ∙ both.1;
-    }
+found-kind : (x : ExerciseView) (object : ℕ) (o : Op) (k : Kind) (found : Option Declaration) → slice_get x.objects object ≡ found
+    → option_map (λ d. d.kind) found ≡ Some k → fits o k ≡ true → is_call o ≡ true → IsAsked x object o
+found-kind x object o k None e h fit call = absurd cc
+found-kind x object o k (Some d) e h fit call =
+    let same : d.kind ≡ k = cc in
+    record { declaration = d; found = e; call = call; fit = ap (fits o) same ∙ fit }
 
 -- a program whose calls fit asks such a call
 pub asked-called : (x : ExerciseView) (p : Program) (registers : List ℤ) (object : ℕ) (o : Op)
     → AllCallsPass (is_call_on x.objects) p → next_ask p registers ≡ ask.Call object o → IsAsked x object o
-asked-called x (Call a code with next) registers object o h e =
-    let at : a ≡ object = cc in
-    let does : op_of registers code with ≡ o = cc in
-    subst (λ n. IsAsked x n o) at (subst (λ (q : Op). IsAsked x a q) does (asked-of x a code with registers (slice_get x.objects a) refl h.0))
-asked-called x p registers object o h e = absurd cc
+asked-called x p registers object o h e =
+    let a = subst (IsAskedAmong (kinds_of x.objects)) e (asked_calls_fit (kinds_of x.objects) p registers h) in
+    found-kind x object o a.kind (slice_get x.objects object) refl
+    (sym (slice_get-map (λ (d : Declaration). d.kind) x.objects object) ∙ a.found) a.fit a.call
 
 -- what an operation and its reply make of the thread
 pub data Becomes : Op → Reply → ℕ → Rest → Type 0 where

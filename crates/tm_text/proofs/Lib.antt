@@ -8,6 +8,7 @@ mod SaidCalls
 mod SaidPrograms
 pub mod WellFormedTexts
 pub mod ThreadCalls
+pub mod ScriptsLemmas
 mod ObjectsLemmas
 mod OwnNumbers
 mod SpelledLemmas

@@ -1,6 +1,6 @@
 -- The objects that lines declare, one line more.
 use Rattle.std.proofs.Common.{◌≡◌, ℕ, suc, ◌+◌, ◌≤◌, Bool, true, false, cond, not, ◌==◌, List, [], ◌∷◌, ◌++◌, length, slice_get, Option, Some, None, is_some, refl, sym, ap, ◌∙◌, subst, arith}
-use Rattle.std.specs.Option.{option_or, unwrap_or}
+use Rattle.std.specs.Option.{option_or}
 use Rattle.std.specs.Str.{bytes_eq}
 use Rattle.std.proofs.lemmas.Bool.{cond_both, cond-true, cond-false}
 use Rattle.std.proofs.lemmas.Bool.Decides.{Decides-eqb}
@@ -14,16 +14,8 @@ use Rattle.tm_lines.specs.Lines.{is_ignored, words_of}
 use Rattle.tm_lines.specs.NamedLines.{declarator_of, kind_by, word_at}
 use Rattle.tm_lines.specs.TextFaults.{said_words}
 use Rattle.tm_text.specs.declared.exercises.Declaration.{Declaration}
-use Rattle.tm_text.specs.Objects.{Declared, IsDeclarable, number_in, object_by, one_number, with_lines, with_object}
-use Rattle.tm_text.specs.Texts.{declarations_said, declared_by, next_thread, number_from}
-
--- the number of a name, where one is found, or 0
-pub number_from-in : (o : ℕ) (ds : List Declaration) (name : List ℕ) → unwrap_or (number_in o ds name) 0 ≡ number_from o ds name
-number_from-in o [] name = refl
-number_from-in o (d ∷ ds) name =
-    cond_both (bytes_eq d.name name) (Some o) (number_in (suc o) ds name) (λ r. unwrap_or r 0 ≡ number_from o (d ∷ ds) name)
-    (λ t. sym (cond-true (bytes_eq d.name name) o (number_from (suc o) ds name) t))
-    (λ f. number_from-in (suc o) ds name ∙ sym (cond-false (bytes_eq d.name name) o (number_from (suc o) ds name) f))
+use Rattle.tm_text.specs.Objects.{Declared, IsDeclarable, object_by, one_number, with_lines, with_object}
+use Rattle.tm_text.specs.Texts.{declarations_said, declared_by, next_thread, number_in}
 
 -- one object more
 pub number_in-more : (o : ℕ) (ds : List Declaration) (d : Declaration) (name : List ℕ) → number_in o (ds ++ d ∷ []) name ≡ option_or (number_in o ds name) (one_number (o + length ds) d.name name)

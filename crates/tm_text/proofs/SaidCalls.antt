@@ -1,5 +1,5 @@
 -- The instructions of a text without a faulty line are ones that a program may have.
-use Rattle.std.proofs.Common.{◌≡◌, ℕ, suc, ◌-◌, ◌<◌, ℤ, pos, negsuc, ◌-ℤ◌, nat_abs, int_le, Bool, true, false, cond, not, ◌&&◌, nat_lt, ltb, List, [], ◌∷◌, length, bytes_eq, find, Option, Some, None, is_none, option_and_then, unwrap_or, refl, sym, ap, ◌∙◌, arith}
+use Rattle.std.proofs.Common.{◌≡◌, ℕ, suc, ◌-◌, ◌<◌, ℤ, pos, negsuc, ◌-ℤ◌, nat_abs, int_le, Bool, true, false, cond, not, ◌&&◌, nat_lt, ltb, List, [], ◌∷◌, length, bytes_eq, find, Option, Some, None, is_none, option_and_then, option_map, unwrap_or, refl, sym, ap, ◌∙◌, arith}
 use Rattle.std.specs.List.{list_all}
 use Rattle.std.proofs.lemmas.Bool.{and_from, and_parts, cond_both, eqb-true, leb-true, ltb-false, lt-ltb, or_parts}
 use Rattle.tm_base.specs.declared.kinds.Kind.{Kind}
@@ -19,6 +19,7 @@ use Rattle.tm_lines.specs.FirstWords.{first_word_of, first_words, operand_slots,
 use Rattle.tm_lines.specs.LineFaults.{Place, conditions_of, has_operation, one_breaks}
 use Rattle.tm_lines.specs.NamedLines.{natural_or, word_at}
 use Rattle.tm_text.specs.declared.exercises.Declaration.{Declaration}
+use Rattle.std.proofs.lemmas.Option.{slice_get-map}
 use Rattle.tm_text.specs.Exercises.{is_asked, is_call_of, is_call_on, is_instruction_on}
 use Rattle.tm_text.specs.Texts.{instruction_said, number_named, operand_said}
 use Rattle.tm_text.proofs.Faultless.{Fine}
@@ -115,7 +116,7 @@ module _ (ds : List Declaration) where
       let with = operand_said (operand_slots c) w in
       let o = op_with c (condition_of with) (pos 0) in
       let kinds : fits o at.0.kind ≡ fits o k = fits-unnumbered o at.0.kind ∙ ap (fits o) at.2 in
-      ap (λ r. is_call_of r c with) at.1
+      ap (λ r. is_call_of r c with) (slice_get-map (λ (d : Declaration). d.kind) ds (number_named ds name) ∙ ap (option_map (λ d. d.kind)) at.1)
       ∙ and_from (is_asked c) (fits o at.0.kind) ask (kinds ∙ fits-said c k w has within)
 
   call_by : (p : Place) (c : Opcode) (found : Option Kind) (ws : List (List ℕ)) → ((k : Kind) → found ≡ Some k → IsFound ds (word_at 1 ws) k) → is_asked c ≡ true → Fine p (first.Calls c) found ws → is_call_on ds (number_named ds (word_at 1 ws)) c (operand_said (operand_slots c) (word_at 2 ws)) ≡ true

@@ -1,5 +1,5 @@
 -- The objects that lines declare, each with the kind that the text's names give it.
-use Rattle.std.proofs.Common.{◌≡◌, ℕ, suc, ◌+◌, Bool, true, false, ◌&&◌, List, [], ◌∷◌, codes, bytes_eq, slice_get, find, Option, Some, None, option_map, option_and_then, refl, sym, ap, subst, ◌∙◌, arith}
+use Rattle.std.proofs.Common.{◌≡◌, ℕ, suc, ◌+◌, Bool, true, false, ◌&&◌, List, [], ◌∷◌, codes, bytes_eq, slice_get, find, Option, Some, None, option_map, option_and_then, unwrap_or, refl, sym, ap, subst, ◌∙◌, arith}
 use Rattle.std.proofs.lemmas.Bool.{cond_both, cond-true, cond-false, and_left, and_right, and_from}
 use Rattle.tm_base.specs.declared.kinds.Kind.{Kind}
 use Rattle.tm_base.specs.declared.kinds.Kind.TheVariants as kind
@@ -8,7 +8,7 @@ use Rattle.tm_lines.specs.declared.first_words.Declarator.TheVariants as declare
 use Rattle.tm_lines.specs.FirstWords.{first_word_of}
 use Rattle.tm_lines.specs.NamedLines.{conditions_said, declarator_of, declares_well, kind_named, kind_said, word_at}
 use Rattle.tm_text.specs.declared.exercises.Declaration.{Declaration}
-use Rattle.tm_text.specs.Texts.{declarations_said, declared_by, next_thread, number_from, number_named}
+use Rattle.tm_text.specs.Texts.{declarations_said, declared_by, next_thread, number_in, number_named}
 
 -- the kind without the number of a thread
 abbrev pub unnumbered : Kind → Kind
@@ -38,7 +38,7 @@ AllDeclareWell (ws ∷ wss) = ((d : Declarator) → declarator_of (first_word_of
 
 -- an object with this name and this kind is found among these, the first of which has this number
 abbrev FoundFrom : ℕ → List Declaration → List ℕ → Kind → Type 0
-FoundFrom o ds name k = (i : ℕ) × (d : Declaration) × (number_from o ds name ≡ o + i) × (slice_get ds i ≡ Some d) × (unnumbered d.kind ≡ k)
+FoundFrom o ds name k = (i : ℕ) × (d : Declaration) × (number_in o ds name ≡ Some (o + i)) × (slice_get ds i ≡ Some d) × (unnumbered d.kind ≡ k)
 
 abbrev pub IsFound : List Declaration → List ℕ → Kind → Type 0
 IsFound ds name k = (d : Declaration) × (slice_get ds (number_named ds name) ≡ Some d) × (unnumbered d.kind ≡ k)
@@ -46,13 +46,13 @@ IsFound ds name k = (d : Declaration) × (slice_get ds (number_named ds name) �
 found_first : (o : ℕ) (d : Declaration) (ds : List Declaration) (name : List ℕ) (k : Kind) → bytes_eq d.name name ≡ true → unnumbered d.kind ≡ k → FoundFrom o (d ∷ ds) name k
 found_first o d ds name k e same =
     let here : o ≡ o + 0 = omega arith in
-    (0, d, cond-true (bytes_eq d.name name) o (number_from (suc o) ds name) e ∙ here, refl, same)
+    (0, d, cond-true (bytes_eq d.name name) (Some o) (number_in (suc o) ds name) e ∙ ap Some here, refl, same)
 
 found_later : (o : ℕ) (d : Declaration) (ds : List Declaration) (name : List ℕ) (k : Kind) → bytes_eq d.name name ≡ false → FoundFrom (suc o) ds name k → FoundFrom o (d ∷ ds) name k
 found_later o d ds name k e found =
     let i = found.0 in
     let there : suc o + i ≡ o + suc i = omega arith in
-    (suc i, found.1, cond-false (bytes_eq d.name name) o (number_from (suc o) ds name) e ∙ found.2 ∙ there, found.3, found.4)
+    (suc i, found.1, cond-false (bytes_eq d.name name) (Some o) (number_in (suc o) ds name) e ∙ found.2 ∙ ap Some there, found.3, found.4)
 
 abbrev names_it : List ℕ → List (List ℕ) → Bool
 names_it name ws = declares_well ws && bytes_eq (word_at 1 ws) name
@@ -96,5 +96,5 @@ module _ (name : List ℕ) (k : Kind) where
   pub found : (t : ℕ) (wss : List (List (List ℕ))) → AllDeclareWell wss → kind_named wss name ≡ Some k → IsFound (declarations_said t wss) name k
   found t wss well h =
       let at = found_from 0 t wss well h in
-      let place : number_named (declarations_said t wss) name ≡ at.0 = at.2 ∙ (let z : 0 + at.0 ≡ at.0 = omega arith in z) in
+      let place : number_named (declarations_said t wss) name ≡ at.0 = ap (λ o. unwrap_or o 0) at.2 ∙ (let z : 0 + at.0 ≡ at.0 = omega arith in z) in
       (at.1, ap (slice_get (declarations_said t wss)) place ∙ at.3, at.4)

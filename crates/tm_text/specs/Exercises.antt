@@ -1,5 +1,5 @@
 -- Exercises as contracts see them.
-use Rattle.std.specs.Prelude.{◌≡◌, ◌≢◌, ℕ, zero, suc, ◌+◌, ◌≤◌, pos, Bool, true, false, ◌&&◌, ◌==◌, if◌then◌else◌, List, [], ◌∷◌, length, codes, count_by, filter_map, nat_le, nat_lt, slice_get, slice_index_or, Option, Some, None}
+use Rattle.std.specs.Prelude.{◌≡◌, ◌≢◌, ℕ, zero, suc, ◌+◌, ◌≤◌, pos, nat_abs, Bool, true, false, ◌&&◌, ◌==◌, if◌then◌else◌, List, [], ◌∷◌, length, codes, count_by, filter_map, map, nat_le, nat_lt, slice_get, slice_index_or, Option, Some, None}
 use Rattle.std.specs.List.{list_all, range_with_len}
 use Rattle.tm_base.specs.declared.opcodes.Opcode.TheVariants as opcode
 use Rattle.tm_programs.specs.declared.instructions.Operand.TheVariants as operand
@@ -17,7 +17,10 @@ use Rattle.tm_programs.specs.Programs.{Program, condition_of}
 use Rattle.tm_programs.specs.Instructions.{IsNested, program_of}
 use Rattle.tm_programs.specs.Calls.{AllCallsPass}
 use Rattle.tm_programs.specs.declared.instructions.Instruction.TheVariants as instruction
-use Rattle.tm_lines.specs.declared.limits.TheConstants.{MOST_INSTRUCTIONS, MOST_OBJECTS}
+use Rattle.tm_lines.specs.declared.first_words.Slot.{Slot}
+use Rattle.tm_lines.specs.declared.first_words.Slot.TheVariants as slot
+use Rattle.tm_lines.specs.declared.limits.TheConstants.{MOST_CAPACITY, MOST_CONDITIONS, MOST_INSTRUCTIONS, MOST_OBJECTS, MOST_PARTIES, MOST_START, MOST_TURNS}
+use Rattle.tm_lines.specs.FirstWords.{operand_slots}
 
 -- The objects with their names and kinds in order of declaration, and a program for each thread,
 -- from thread 1.
@@ -70,41 +73,35 @@ is_asked opcode.Resume = false
 is_asked opcode.Stop = false
 is_asked code = true
 
--- The call is of an operation that the object has, if it is there; what value it takes makes no difference.
-abbrev pub is_call_of : Option Declaration → Opcode → Operand → Bool
+-- The kinds of the objects.
+abbrev pub kinds_of : List Declaration → List Kind
+kinds_of ds = map (λ d. d.kind) ds
+
+-- The call is of an operation that an object of the kind has, if there is one; what value it takes makes no
+-- difference.
+abbrev pub is_call_of : Option Kind → Opcode → Operand → Bool
 is_call_of None code with = false
-is_call_of (Some d) code with = is_asked code && fits (op_with code (condition_of with) (pos 0)) d.kind
+is_call_of (Some k) code with = is_asked code && fits (op_with code (condition_of with) (pos 0)) k
+
+-- The call is one of the object with this number, where these are the kinds of the objects.
+abbrev pub is_call_among : List Kind → ℕ → Opcode → Operand → Bool
+is_call_among kinds object code with = is_call_of (slice_get kinds object) code with
 
 abbrev pub is_call_on : List Declaration → ℕ → Opcode → Operand → Bool
-is_call_on ds object code with = is_call_of (slice_get ds object) code with
+is_call_on ds object code with = is_call_among (kinds_of ds) object code with
 
--- What a call with this opcode has beside its object.
+-- What a call has beside its object, where these are the words after the object's name.
+abbrev pub takes_in : List Slot → Operand → Bool
+takes_in [] operand.Nothing = true
+takes_in (slot.Register ∷ ss) (operand.Register r) = nat_lt r 8
+takes_in (slot.Condition ∷ ss) (operand.Condition c) = true
+takes_in (slot.Value ∷ ss) (operand.Number k) = true
+takes_in (slot.Value ∷ ss) (operand.Register r) = nat_lt r 8
+takes_in ss with = false
+
+-- What a call of the operation has beside its object.
 abbrev pub takes : Opcode → Operand → Bool
-takes opcode.TryLock (operand.Register r) = nat_lt r 8
-takes opcode.TryP (operand.Register r) = nat_lt r 8
-takes opcode.Recv (operand.Register r) = nat_lt r 8
-takes opcode.Read (operand.Register r) = nat_lt r 8
-takes opcode.Wait (operand.Condition c) = true
-takes opcode.Signal (operand.Condition c) = true
-takes opcode.Broadcast (operand.Condition c) = true
-takes opcode.Send (operand.Number k) = true
-takes opcode.Send (operand.Register r) = nat_lt r 8
-takes opcode.Write (operand.Number k) = true
-takes opcode.Write (operand.Register r) = nat_lt r 8
-takes opcode.Add (operand.Number k) = true
-takes opcode.Add (operand.Register r) = nat_lt r 8
-takes opcode.TryLock with = false
-takes opcode.TryP with = false
-takes opcode.Recv with = false
-takes opcode.Read with = false
-takes opcode.Wait with = false
-takes opcode.Signal with = false
-takes opcode.Broadcast with = false
-takes opcode.Send with = false
-takes opcode.Write with = false
-takes opcode.Add with = false
-takes code operand.Nothing = true
-takes code with = false
+takes code with = takes_in (operand_slots code) with
 
 -- A program may have the instruction: a call is one that its object has, with what the operation takes; a
 -- register is one of the eight; and a `repeat` has no more turns than it may have.
@@ -112,7 +109,7 @@ abbrev pub is_instruction_on : List Declaration → Instruction → Bool
 is_instruction_on ds (instruction.Call object code with) = is_call_on ds object code with && takes code with
 is_instruction_on ds (instruction.Set register value) = nat_lt register 8
 is_instruction_on ds (instruction.Inc register value) = nat_lt register 8
-is_instruction_on ds (instruction.Repeat turns) = nat_le turns 1000000
+is_instruction_on ds (instruction.Repeat turns) = nat_le turns (nat_abs MOST_TURNS)
 is_instruction_on ds (instruction.While register how value) = nat_lt register 8
 is_instruction_on ds (instruction.If register how value) = nat_lt register 8
 is_instruction_on ds instruction.End = true
@@ -128,11 +125,11 @@ count_of items = count_by is_counted items
 
 -- The kinds of the objects that a text can declare, with their ranges.
 abbrev pub IsKindRead : Kind → Type 0
-IsKindRead (kind.Sem value) = value ≤ 1000000
-IsKindRead (kind.Hoare conditions) = (1 ≤ conditions) × (conditions ≤ 16)
-IsKindRead (kind.Mesa conditions) = (1 ≤ conditions) × (conditions ≤ 16)
-IsKindRead (kind.Barrier parties) = (1 ≤ parties) × (parties ≤ 64)
-IsKindRead (kind.Async capacity) = (1 ≤ capacity) × (capacity ≤ 65535)
+IsKindRead (kind.Sem value) = value ≤ nat_abs MOST_START
+IsKindRead (kind.Hoare conditions) = (1 ≤ conditions) × (conditions ≤ nat_abs MOST_CONDITIONS)
+IsKindRead (kind.Mesa conditions) = (1 ≤ conditions) × (conditions ≤ nat_abs MOST_CONDITIONS)
+IsKindRead (kind.Barrier parties) = (1 ≤ parties) × (parties ≤ nat_abs MOST_PARTIES)
+IsKindRead (kind.Async capacity) = (1 ≤ capacity) × (capacity ≤ nat_abs MOST_CAPACITY)
 IsKindRead k = Unit {0}
 
 -- What holds of every exercise that was read.

@@ -1,4 +1,5 @@
 pub mod Exercises
+pub mod Scripts
 pub mod StoredExercises
 pub mod Texts
 pub mod Objects

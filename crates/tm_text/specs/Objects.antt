@@ -1,5 +1,5 @@
 -- The objects of a text as its lines declare them, and the numbers of threads' own objects.
-use Rattle.std.specs.Prelude.{◌≡◌, ℕ, suc, ◌+◌, ◌<◌, ◌≤◌, if◌then◌else◌, List, [], ◌∷◌, ◌++◌, length, slice_get, Option, Some, None}
+use Rattle.std.specs.Prelude.{◌≡◌, ℕ, ◌+◌, ◌<◌, ◌≤◌, if◌then◌else◌, List, [], ◌∷◌, ◌++◌, length, slice_get, Option, Some, None}
 use Rattle.std.specs.Str.{bytes_eq}
 use Rattle.tm_base.specs.declared.kinds.Kind.{Kind}
 use Rattle.tm_base.specs.declared.kinds.Kind.TheVariants as kind
@@ -55,11 +55,6 @@ with_object v d t = record { objects = v.objects ++ d ∷ []; thread = t }
 -- The number of the one object, if it has the name.
 abbrev pub one_number : ℕ → List ℕ → List ℕ → Option ℕ
 one_number o declared name = if bytes_eq declared name then Some o else None
-
--- The number of the first object with the name, where the first of these has this number.
-abbrev pub number_in : ℕ → List Declaration → List ℕ → Option ℕ
-number_in o [] name = None
-number_in o (d ∷ ds) name = if bytes_eq d.name name then Some o else number_in (suc o) ds name
 
 -- The numbers with this object's in front, where it is a thread's own object.
 abbrev pub owns_of_kind : ℕ → Kind → List ℕ → List ℕ

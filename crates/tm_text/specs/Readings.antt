@@ -1,7 +1,7 @@
 -- How a text is read, line by line.
 use Rattle.std.specs.Prelude.{◌≡◌, ℕ, ◌<◌, List, length, Option, Some, None}
 use Rattle.tm_programs.specs.declared.instructions.Instruction.{Instruction}
-use Rattle.tm_lines.specs.declared.faults.TextFault.{TextFault as FaultyLine}
+use Rattle.tm_lines.specs.declared.faults.FaultyLine.{FaultyLine}
 use Rattle.tm_lines.specs.Checks.{Check, before, fault_left}
 use Rattle.tm_lines.specs.TextFaults.{said_words, text_lines}
 use Rattle.tm_text.specs.declared.exercises.Declaration.{Declaration}

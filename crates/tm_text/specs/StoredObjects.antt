@@ -4,7 +4,8 @@ use Rattle.std.specs.HashMap as hash
 use Rattle.std.specs.Str.{bytes_eq}
 use Rattle.tm_lines.specs.declared.limits.TheConstants.{MOST_OBJECTS}
 use Rattle.tm_text.specs.declared.objects.Objects.TheInside.{Inside}
-use Rattle.tm_text.specs.Objects.{Declared, number_in}
+use Rattle.tm_text.specs.Objects.{Declared}
+use Rattle.tm_text.specs.Texts.{number_in}
 
 abbrev pub declared_view : Inside → Declared
 declared_view a = record { objects = a.declarations.items; thread = a.thread }

@@ -22,13 +22,14 @@ use Rattle.tm_lines.specs.TextFaults.{first_fault, said_words, text_lines}
 use Rattle.tm_text.specs.declared.exercises.Declaration.{Declaration}
 use Rattle.tm_text.specs.Exercises.{ExerciseView, IsWellFormed}
 
--- The number of the object with this name, from 0, where the first of these has this number.
-abbrev pub number_from : ℕ → List Declaration → List ℕ → ℕ
-number_from o [] name = 0
-number_from o (d ∷ ds) name = if bytes_eq d.name name then o else number_from (suc o) ds name
+-- The number of the first object with the name, where the first of these has this number.
+abbrev pub number_in : ℕ → List Declaration → List ℕ → Option ℕ
+number_in o [] name = None
+number_in o (d ∷ ds) name = if bytes_eq d.name name then Some o else number_in (suc o) ds name
 
+-- The number of the object with the name, from 0, and 0 where there is none.
 abbrev pub number_named : List Declaration → List ℕ → ℕ
-number_named ds name = number_from 0 ds name
+number_named ds name = unwrap_or (number_in 0 ds name) 0
 
 -- What words say that are no faults: a register, a number, a comparison.
 abbrev pub register_said : List ℕ → ℕ

@@ -8,8 +8,8 @@ ghost use Rattle.tm_text.specs.Texts.{comparison_said, instruction_said, number_
 use crate::objects::Objects;
 use tm_base::Opcode;
 use tm_lines::{
-    FirstWord, GREATEST_NUMBER, LEAST_NUMBER, MOST_TURNS, Words, begins_with_r, comparison, number,
-    register,
+    FirstWord, GREATEST_NUMBER, LEAST_NUMBER, MOST_TURNS, Slot, Words, begins_with_r, comparison,
+    number, register,
 };
 use tm_programs::{Comparison, Instruction, Operand};
 
@@ -53,12 +53,10 @@ pub fn instruction(objects: &Objects, first: FirstWord, after: &Words) -> Instru
 fn operand(opcode: Opcode, word: &[u8]) -> Operand
     ensures { result ≡ operand_said (operand_slots opcode) word.now }
 {
-    match opcode {
-        Opcode::TryLock | Opcode::TryP | Opcode::Recv | Opcode::Read => {
-            Operand::Register(register_or(word))
-        }
-        Opcode::Wait | Opcode::Signal | Opcode::Broadcast => Operand::Condition(condition(word)),
-        Opcode::Send | Opcode::Write | Opcode::Add => value(word),
+    match FirstWord::Calls(opcode).slots().get(1) {
+        Some(Slot::Register) => Operand::Register(register_or(word)),
+        Some(Slot::Condition) => Operand::Condition(condition(word)),
+        Some(Slot::Value) => value(word),
         _ => Operand::Nothing,
     }
 }

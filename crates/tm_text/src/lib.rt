@@ -13,7 +13,7 @@ mod tests;
 mod text_faults;
 
 pub use exercises::{Declaration, Exercise};
-pub use laws::{calls_fit, exercises_are_well_formed, one_exercise};
+pub use laws::{asked_calls_fit, calls_fit, exercises_are_well_formed, one_exercise};
 pub use reader::read;
 pub use scripts::Script;
 pub use text_faults::TextFault;

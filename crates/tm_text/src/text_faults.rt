@@ -2,7 +2,7 @@ ghost use Rattle.std.specs.Prelude.{◌≡◌};
 ghost use Rattle.tm_text.specs.declared.text_faults.TextFault.TheVariants.{Line, NoMemory};
 
 use tm_base::NoMemory;
-use tm_lines::{Fault, TextFault as FaultyLine};
+use tm_lines::{Fault, FaultyLine};
 
 /// Why a text gives no exercise.
 #[derive(Clone, Copy, Debug, PartialEq, Eq)]

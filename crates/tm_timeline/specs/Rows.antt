@@ -10,7 +10,8 @@ use Rattle.tm_base.specs.declared.bars.Bar.{Bar}
 use Rattle.tm_base.specs.declared.ends.End.{End}
 use Rattle.tm_base.specs.declared.ends.End.TheVariants as end
 use Rattle.tm_text.specs.Exercises.{ExerciseView, name_of, own_of}
-use Rattle.tm_timeline.specs.Words.{op_word, reply_word, bar_letter, end_word}
+use Rattle.tm_base.specs.Opcodes.{opcode_of, word_of}
+use Rattle.tm_timeline.specs.Words.{reply_word, bar_letter, end_word}
 
 -- LF, which ends a line.
 abbrev pub line_end : List ℕ
@@ -48,7 +49,7 @@ places_text x e =
 abbrev pub event_text : ExerciseView → Entry → List ℕ
 event_text x e =
     decimal e.stamp ++ codes " " ++ places_text x e ++ codes " "
-    ++ op_word e.op ++ operand_text e.op ++ codes " " ++ reply_word e.reply ++ detail_text x e.reply
+    ++ word_of (opcode_of e.op) ++ operand_text e.op ++ codes " " ++ reply_word e.reply ++ detail_text x e.reply
 
 -- A row: its number, its event, and a letter for each thread.
 abbrev pub row_of : ExerciseView → ℕ → Entry → List Bar → List ℕ

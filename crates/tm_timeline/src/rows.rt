@@ -3,7 +3,7 @@ ghost use Rattle.tm_timeline.specs.Words.{bar_letter};
 ghost use Rattle.tm_timeline.specs.Rows.{event_text, places_text, row_of, NamesThread};
 
 use crate::pieces::{push_detail, push_number, push_object, push_operand, push_thread};
-use crate::words::{bar_letter, op_word, reply_word};
+use crate::words::{bar_letter, reply_word};
 use std::alloc::Global;
 use tm_base::{Bar, Bytes, Entry, NoMemory};
 use tm_text::Exercise;
@@ -49,7 +49,7 @@ fn push_event(
     out.extend_from_slice(b" ")?;
     push_places(alloc, out, exercise, entry)?;
     out.extend_from_slice(b" ")?;
-    out.extend_from_slice(op_word(entry.op))?;
+    out.extend_from_slice(entry.op.opcode().word())?;
     push_operand(alloc, out, entry.op)?;
     out.extend_from_slice(b" ")?;
     out.extend_from_slice(reply_word(entry.reply))?;

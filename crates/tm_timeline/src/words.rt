@@ -1,43 +1,7 @@
 ghost use Rattle.std.specs.Prelude.{◌≡◌};
-ghost use Rattle.tm_timeline.specs.Words.{op_word, reply_word, bar_letter, end_word};
+ghost use Rattle.tm_timeline.specs.Words.{reply_word, bar_letter, end_word};
 
-use tm_base::{Bar, End, Op, Reply};
-
-/// The operation's word.
-pub fn op_word(op: Op) -> &'static [u8]
-    ensures { result.now ≡ op_word op }
-{
-    match op {
-        Op::Lock => b"lock",
-        Op::TryLock => b"trylock",
-        Op::Unlock => b"unlock",
-        Op::P => b"p",
-        Op::TryP => b"tryp",
-        Op::V => b"v",
-        Op::Enter => b"enter",
-        Op::Leave => b"leave",
-        Op::Wait(_) => b"wait",
-        Op::Signal(_) => b"signal",
-        Op::Broadcast(_) => b"broadcast",
-        Op::Arrive => b"arrive",
-        Op::RLock => b"rlock",
-        Op::RUnlock => b"runlock",
-        Op::WLock => b"wlock",
-        Op::WUnlock => b"wunlock",
-        Op::Send(_) => b"send",
-        Op::Recv => b"recv",
-        Op::Close => b"close",
-        Op::Read => b"read",
-        Op::Write(_) => b"write",
-        Op::Add(_) => b"add",
-        Op::Start => b"start",
-        Op::Join => b"join",
-        Op::Begin => b"begin",
-        Op::End { .. } => b"end",
-        Op::Resume => b"resume",
-        Op::Stop => b"stop",
-    }
-}
+use tm_base::{Bar, End, Reply};
 
 /// The reply's word.
 pub fn reply_word(reply: Reply) -> &'static [u8]

@@ -1,6 +1,7 @@
 use Rattle.std.proofs.Common.{◌≡◌, [], ◌∷◌, ◌++◌, ◌+◌, length, sym, ap, ◌∙◌, arith, rules}
 use Rattle.std.specs.Option.{option_or}
-use Rattle.tm_text.specs.Objects.{number_in, object_by, one_number}
+use Rattle.tm_text.specs.Objects.{object_by, one_number}
+use Rattle.tm_text.specs.Texts.{number_in}
 use Rattle.tm_text.proofs.ObjectsLemmas.{has_name, number_in-more}
 use Rattle.tm_text.proofs.objects.Objects.add.Goals as goal
 
