@@ -19,3 +19,5 @@ pub use top_calls::mentor_alone;
 
 #[cfg(test)]
 mod tests;
+#[cfg(test)]
+mod whole_runs;

@@ -76,7 +76,7 @@ budget 3 A
 
 /// Runs the command of these words, which spaces part, over memory where these reads and writes
 /// fail. Gives back the outcome and what was written.
-fn command(
+pub fn command(
     alloc: Global,
     words: &str,
     text: &str,
@@ -217,10 +217,21 @@ fn a_blank_is_no_digit(rt: HostRuntime) -> Result<(), Fail> {
 
 #[test]
 fn texts_of_no_exercise_are_refused(rt: HostRuntime) -> Result<(), Fail> {
-    let (outcome, sink) = command(rt.alloc(), "run", "mutex", &[], &[])?;
-    assert_eq!(rt; sink.bytes(), b"mentor: line 1: count\n".as_slice());
-    assert_eq!(rt; outcome.status, 3);
-    assert!(rt; outcome.finished.is_none());
+    let table = [
+        ("mutex", "mentor: line 1: count\n"),
+        (
+            "mutex m\nthread A\nlock m\nlock q\nend\n",
+            "mentor: line 4: unknown\n",
+        ),
+        ("mutex m\nthread A\nlock m\n", "mentor: line 4: open\n"),
+        ("var x 9223372036854775808\n", "mentor: line 1: number\n"),
+    ];
+    for (text, line) in table {
+        let (outcome, sink) = command(rt.alloc(), "run", text, &[], &[])?;
+        assert_eq!(rt; sink.bytes(), line.as_bytes());
+        assert_eq!(rt; outcome.status, 3, "for {text:?}");
+        assert!(rt; outcome.finished.is_none());
+    }
     Ok(())
 }
 

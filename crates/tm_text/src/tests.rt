@@ -155,3 +155,50 @@ fn an_exercise_has_256_objects_and_64_threads_at_most(rt: HostRuntime) -> Result
     }
     Ok(())
 }
+
+/// Two threads that take one mutex in turn.
+const PAIR: &[u8] = b"mutex m\nthread A\nlock m\nunlock m\nend\nthread B\nlock m\nunlock m\nend\n";
+
+/// What is answered for its first bytes: for more of them than in the row before, up to so many.
+const BEGINNINGS: [(usize, Option<(u64, Fault)>); 25] = [
+    (0, None),
+    (4, Some((1, Fault::Word))),
+    (6, Some((1, Fault::Count))),
+    (8, None),
+    (13, Some((2, Fault::Word))),
+    (15, Some((2, Fault::Count))),
+    (17, Some((3, Fault::NotEnded))),
+    (20, Some((3, Fault::Word))),
+    (22, Some((3, Fault::Count))),
+    (24, Some((4, Fault::NotEnded))),
+    (29, Some((4, Fault::Word))),
+    (31, Some((4, Fault::Count))),
+    (33, Some((5, Fault::NotEnded))),
+    (35, Some((5, Fault::Word))),
+    (37, None),
+    (42, Some((6, Fault::Word))),
+    (44, Some((6, Fault::Count))),
+    (46, Some((7, Fault::NotEnded))),
+    (49, Some((7, Fault::Word))),
+    (51, Some((7, Fault::Count))),
+    (53, Some((8, Fault::NotEnded))),
+    (58, Some((8, Fault::Word))),
+    (60, Some((8, Fault::Count))),
+    (62, Some((9, Fault::NotEnded))),
+    (64, Some((9, Fault::Word))),
+];
+
+#[test]
+fn each_beginning_of_a_text_is_read_or_refused_at_its_last_line(
+    rt: HostRuntime,
+) -> Result<(), Fail> {
+    for (bytes, text) in (0..=PAIR.len()).map(|n| (n, &PAIR[..n])) {
+        let row = BEGINNINGS.iter().find(|row| bytes <= row.0);
+        let answer = match row {
+            Some(row) => row.1,
+            None => None,
+        };
+        assert_eq!(rt; refusal(rt.alloc(), text)?, answer, "in {text:?}");
+    }
+    Ok(())
+}
