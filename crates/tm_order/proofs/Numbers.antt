@@ -1,0 +1,111 @@
+-- Lists of events that are numbered one after another, and how a list with the same events stands in the same
+-- order.
+use Rattle.std.proofs.Common.{◌≡◌, ℕ, suc, ◌<◌, ◌≤◌, Bool, ◌==◌, ⊎_elim, List, [], ◌∷◌, ◌++◌, filter, fold, Contains, refl, ap, sym, ◌∙◌, subst, arith}
+use Rattle.std.proofs.lemmas.Bool.{cases_eq, eqb-true}
+use Rattle.tm_base.specs.declared.events.Entry.{Entry}
+use Rattle.tm_base.specs.Runs.{Leads}
+use Rattle.tm_replay.proofs.Lists.{Contains-first, Contains-parts}
+use Rattle.tm_order.proofs.Elements.{Contains-none, Contains-head, Contains-next, Contains-middle, Contains-filter, Contains-filtered, AppearOnce, AppearOnce-filter, filter-middle, split-one}
+
+-- the numbers of these events run from this one
+abbrev pub RunFrom : (Entry → ℕ) → ℕ → List Entry → Type 0
+RunFrom number a [] = Unit {0}
+RunFrom number a (e ∷ es) = (number e ≡ a) × RunFrom number (suc a) es
+
+-- the events of a run whose states know the next number are numbered so
+pub Leads-numbered : {S : Type 0} (step : S → Entry → S → Type 0) (number : Entry → ℕ) (next : S → ℕ)
+    → ((p : S) (e : Entry) (q : S) → step p e q → (number e ≡ next p) × (next q ≡ suc (number e)))
+    → (es : List Entry) (p q : S) → Leads step p es q → RunFrom number (next p) es
+Leads-numbered step number next on [] p q run = tt
+Leads-numbered step number next on (e ∷ es) p q run =
+    let here = on p e run.0 run.1 in
+    let after : next run.0 ≡ suc (next p) = here.1 ∙ ap suc here.0 in
+    (here.0, subst (λ n. RunFrom number n es) after (Leads-numbered step number next on es run.0 q run.2))
+
+-- the last stamp of a run's events is the one that its states know
+pub Leads-last : {S : Type 0} (step : S → Entry → S → Type 0) (stamp : S → ℕ) → ((p : S) (e : Entry) (q : S) → step p e q → stamp q ≡ e.stamp)
+    → (es : List Entry) (p q : S) → Leads step p es q → fold (λ n f. f.stamp) (stamp p) es ≡ stamp q
+Leads-last step stamp on [] p q run = ap stamp (sym run)
+Leads-last step stamp on (e ∷ es) p q run =
+    ap (λ (n : ℕ). fold (λ m f. f.stamp) n es) (sym (on p e run.0 run.1)) ∙ Leads-last step stamp on es run.0 q run.2
+
+-- no number is below the first
+pub RunFrom-low : (number : Entry → ℕ) (a : ℕ) (es : List Entry) (e : Entry) → RunFrom number a es → Contains es e → a ≤ number e
+RunFrom-low number a [] e run within = absurd (Contains-none e within)
+RunFrom-low number a (f ∷ es) e run within = ⊎_elim
+    (λ (same : e ≡ f). let is : number e ≡ number f = ap number same in omega (arith, is, run.0))
+    (λ (later : Contains es e). let more = RunFrom-low number (suc a) es e run.1 later in omega (arith, more))
+    (Contains-first f es e within)
+
+-- each number stands once
+pub RunFrom-once : (number : Entry → ℕ) (a : ℕ) (es : List Entry) → RunFrom number a es → AppearOnce es
+RunFrom-once number a [] run = tt
+RunFrom-once number a (e ∷ es) run =
+    ((λ again. let more = RunFrom-low number (suc a) es e run.1 again in omega (arith, more, run.0)), RunFrom-once number (suc a) es run.1)
+
+-- before each event but the first stands the one with the number before
+pub RunFrom-before : (number : Entry → ℕ) (a : ℕ) (es : List Entry) (e : Entry) → RunFrom number a es → Contains es e → a < number e
+    → (b : Entry) × Contains es b × (suc (number b) ≡ number e)
+RunFrom-before number a [] e run within more = absurd (Contains-none e within)
+RunFrom-before number a (f ∷ es) e run within more = ⊎_elim
+    (λ (same : e ≡ f). let is : number e ≡ number f = ap number same in absurd (omega (arith, is, run.0, more)))
+    (λ (later : Contains es e). ⊎_elim
+    (λ (next : number e ≡ suc a). (f, Contains-head f es, omega (arith, next, run.0)))
+    (λ (apart : number e ≡ suc a → ⊥).
+    let low = RunFrom-low number (suc a) es e run.1 later in
+    let above : suc a < number e = omega (arith, low, apart) in
+    let before = RunFrom-before number (suc a) es e run.1 later above in
+    (before.0, Contains-next f es before.0 before.1, before.2))
+    (cases_eq (number e) (suc a)))
+    (Contains-first f es e within)
+
+-- each event stands behind the one with the number before
+abbrev pub KeepsNumbers : (Entry → ℕ) → List Entry → Type 0
+KeepsNumbers number es = (front back : List Entry) (p q : Entry) → es ≡ front ++ q ∷ back → Contains es p → suc (number p) ≡ number q → Contains front p
+
+-- two lists with the same events, each once, in which each stands behind the one with the number before, are one
+pub one-order : (number : Entry → ℕ) (a : ℕ) (given other : List Entry) → RunFrom number a given → AppearOnce other
+    → ((e : Entry) → Contains other e → Contains given e) → ((e : Entry) → Contains given e → Contains other e) → KeepsNumbers number other → other ≡ given
+one-order number a [] [] run once less more keeps = refl
+one-order number a [] (f ∷ other) run once less more keeps = absurd (Contains-none f (less f (Contains-head f other)))
+one-order number a (e ∷ given) [] run once less more keeps = absurd (Contains-none e (more e (Contains-head e given)))
+one-order number a (e ∷ given) (f ∷ other) run once less more keeps =
+    let first : f ≡ e = ⊎_elim
+    (λ (same : f ≡ e). same)
+    (λ (later : Contains given f).
+    let low = RunFrom-low number (suc a) given f run.1 later in
+    let before = RunFrom-before number a (e ∷ given) f run (Contains-next e given f later) (omega (arith, low)) in
+    absurd (Contains-none before.0 (keeps [] other before.0 f refl (more before.0 before.1) before.2)))
+    (Contains-first e given f (less f (Contains-head f other))) in
+    let less' : (g : Entry) → Contains other g → Contains given g = λ g within. ⊎_elim
+    (λ (same : g ≡ e). absurd (once.0 (subst (Contains other) (same ∙ sym first) within)))
+    (λ (later : Contains given g). later)
+    (Contains-first e given g (less g (Contains-next f other g within))) in
+    let more' : (g : Entry) → Contains given g → Contains other g = λ g within. ⊎_elim
+    (λ (same : g ≡ f).
+    let low = RunFrom-low number (suc a) given g run.1 within in
+    let is : number g ≡ number e = ap number (same ∙ first) in
+    absurd (omega (arith, low, is, run.0)))
+    (λ (later : Contains other g). later)
+    (Contains-first f other g (more g (Contains-next e given g within))) in
+    let keeps' : KeepsNumbers number other = λ front back p q parts within next. ⊎_elim
+    (λ (same : p ≡ f). absurd (once.0 (subst (Contains other) same within)))
+    (λ (later : Contains front p). later)
+    (Contains-first f front p (keeps (f ∷ front) back p q (ap (λ l. f ∷ l) parts) (Contains-next f other p within) next)) in
+    ap (λ g. g ∷ other) first ∙ ap (λ l. e ∷ l) (one-order number (suc a) given other run.1 once.1 less' more' keeps')
+
+-- a list in which each event stands behind its direct predecessors keeps the numbers of the events with one key
+pub keeps-own : (key number : Entry → ℕ) (i : ℕ) (es : List Entry) → AppearOnce es
+    → ((front back : List Entry) (p q : Entry) → es ≡ front ++ q ∷ back → Contains es p → key p ≡ key q → suc (number p) ≡ number q → Contains front p)
+    → KeepsNumbers number (filter (λ e. key e == i) es)
+keeps-own key number i es once keeps front back p q parts within next =
+    let own : Entry → Bool = λ e. key e == i in
+    let there : Contains (filter own es) q = subst (λ (l : List Entry). Contains l q) (sym parts) (Contains-middle front back q) in
+    let was = Contains-filtered own es q there in
+    let from = Contains-filtered own es p within in
+    let cut = Contains-parts es q was.0 in
+    let before : Contains cut.0 p = keeps cut.0 cut.1 p q cut.2 from.0 (eqb-true (key p) i from.1 ∙ sym (eqb-true (key q) i was.1)) next in
+    let whole : filter own es ≡ filter own cut.0 ++ q ∷ filter own cut.1 = ap (filter own) cut.2 ∙ filter-middle own cut.0 q cut.1 was.1 in
+    let same : filter own cut.0 ≡ front = split-one (filter own cut.0) (filter own cut.1) front back q
+    (subst AppearOnce whole (AppearOnce-filter own es once)) (sym whole ∙ parts) in
+    subst (λ (l : List Entry). Contains l p) same (Contains-filter own cut.0 p before from.1)

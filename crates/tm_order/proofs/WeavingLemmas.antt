@@ -1,0 +1,180 @@
+-- The joint runs are the woven lists.
+use Rattle.std.proofs.Common.{◌≡◌, ℕ, suc, ◌<◌, ◌≤◌, max, ◌==◌, ⊎_elim, List, [], ◌∷◌, ◌++◌, length, Contains, slice_set, refl, ap, sym, ◌∙◌, subst, arith, eq-eqb}
+use Rattle.std.proofs.lemmas.List.{append-nil, append_assoc}
+use Rattle.std.proofs.lemmas.List.Elements.{Contains-push_cases}
+use Rattle.std.proofs.lemmas.Option.{slice_get_within}
+use Rattle.tm_base.specs.declared.events.Entry.{Entry}
+use Rattle.tm_base.specs.Histories.{Label, HistoryState, Follows, IsHistory, first_history_state}
+use Rattle.tm_base.specs.Orders.{of_object, of_thread}
+use Rattle.tm_laws.proofs.Determined.{history-one}
+use Rattle.tm_laws.proofs.RunsLemmas.{Leads-snoc, Leads-split}
+use Rattle.tm_text.specs.Exercises.{ExerciseView}
+use Rattle.tm_replay.specs.JointStates.{JointState, ThreadState, ObjectState, start}
+use Rattle.tm_replay.specs.JointSteps.{JointStep, IsJointRun, stepped, entered}
+use Rattle.tm_replay.proofs.Lists.{Contains-parts, found_at}
+use Rattle.tm_replay.proofs.ProjectionsLemmas.{runs-keep}
+use Rattle.tm_order.specs.Records.{IsClocked, IsReached, IsRecorded, label_of, last_stamp, object_state_at}
+use Rattle.tm_order.specs.ThreadRuns.{IsThreadRun, Proceeds, thread_at_start}
+use Rattle.tm_order.specs.Weaving.{AreInRange, IsWoven}
+use Rattle.tm_order.proofs.Elements.{Contains-none, Contains-middle, Contains-filtered, AppearOnce, filter-middle, split-one}
+use Rattle.tm_order.proofs.Numbers.{RunFrom-once}
+use Rattle.tm_order.proofs.Reaching.{object-last, object-numbered, reached-one, reached-start, reached-step, thread-last, thread-numbered, thread-one}
+
+-- the first list is the beginning of the second
+abbrev pub Begins : List Entry → List Entry → Type 0
+Begins part whole = (rest : List Entry) × (whole ≡ part ++ rest)
+
+-- of each thread and each object the list has a beginning of what it recorded
+pub record AreBeginnings (x : ExerciseView) (made seen : ℕ → List Entry) (es : List Entry) : Type 0 where
+  pub threads : (t : ℕ) → t ≤ length x.programs → Begins (of_thread es t) (made t)
+  pub objects : (o : ℕ) → o < length x.objects → Begins (of_object es o) (seen o)
+
+-- where an event stands behind what is kept of a list's front, in a longer list
+parted : (own front back rest whole : List Entry) (e : Entry) → own ≡ front ++ e ∷ back → whole ≡ own ++ rest → whole ≡ front ++ e ∷ (back ++ rest)
+parted own front back rest whole e parts begins = begins ∙ ap (λ (l : List Entry). l ++ rest) parts ∙ append_assoc front (e ∷ back) rest
+
+module _ (x : ExerciseView) (made seen : ℕ → List Entry) (recorded : IsRecorded x made seen) (clocked : IsClocked made seen) where
+  -- after what its thread and its object had before it the event is a joint step
+  next : (front back : List Entry) (e : Entry) (j : JointState) → AreInRange x (front ++ e ∷ back) → AreBeginnings x made seen (front ++ e ∷ back)
+      → IsReached x (of_thread front) (of_object front) j → (k : JointState) × JointStep x j e k
+  next front back e j range begins reached =
+      let t : ℕ = e.thread in
+      let o : ℕ = e.object in
+      let known = range e (Contains-middle front back e) in
+      let d = found_at x.objects o known.1 in
+      let l : Label = label_of x o d.0 in
+      let mine = begins.threads t known.0 in
+      let theirs = begins.objects o known.1 in
+      let by_thread : made t ≡ of_thread front t ++ e ∷ (of_thread back t ++ mine.0) =
+      parted (of_thread (front ++ e ∷ back) t) (of_thread front t) (of_thread back t) mine.0 (made t) e (filter-middle (λ (f : Entry). f.thread == t) front e back (eq-eqb t t refl)) mine.1 in
+      let by_object : seen o ≡ of_object front o ++ e ∷ (of_object back o ++ theirs.0) =
+      parted (of_object (front ++ e ∷ back) o) (of_object front o) (of_object back o) theirs.0 (seen o) e (filter-middle (λ (f : Entry). f.object == o) front e back (eq-eqb o o refl)) theirs.1 in
+      let seat = reached.threads t known.0 in
+      let place = reached.objects o d.0 d.1 in
+      let whole_run = recorded.threads t known.0 in
+      let whole_history = recorded.objects o d.0 d.1 in
+      let run = Leads-split (Proceeds x t) (of_thread front t) (e ∷ (of_thread back t ++ mine.0)) (thread_at_start x t) whole_run.0
+      (subst (λ (fs : List Entry). IsThreadRun x t fs whole_run.0) by_thread whole_run.1) in
+      let history = Leads-split (Follows l) (of_object front o) (e ∷ (of_object back o ++ theirs.0)) (first_history_state l) whole_history.0
+      (subst (λ (fs : List Entry). IsHistory l fs whole_history.0) by_object whole_history.1) in
+      let proceeds : Proceeds x t seat.0 e run.2.0 =
+      subst (λ (s : ThreadState). Proceeds x t s e run.2.0) (thread-one x t (of_thread front t) run.0 seat.0 run.1 seat.1) run.2.1 in
+      let follows : Follows l place.0 e history.2.0 =
+      subst (λ (p : HistoryState). Follows l p e history.2.0) (history-one l (of_object front o) history.0 place.0 history.1 place.1) history.2.1 in
+      let stamp : e.stamp ≡ suc (max (last_stamp (of_thread front t)) (last_stamp (of_object front o))) =
+      clocked e (of_thread front t) (of_thread back t ++ mine.0) (of_object front o) (of_object back o ++ theirs.0) by_thread by_object in
+      let thread_stamp : last_stamp (of_thread front t) ≡ seat.0.stamp = thread-last x t (of_thread front t) seat.0 seat.1 in
+      let object_stamp : last_stamp (of_object front o) ≡ place.0.stamp = object-last x l (of_object front o) place.0 place.1 in
+      let b : ObjectState = object_state_at x o d.0 place.0 in (
+        record {
+          objects = slice_set j.objects o (entered b e history.2.0.state);
+          threads = slice_set j.threads t (stepped seat.0 e);
+        },
+        record {
+          happens = record {
+            thread_state = seat.0;
+            thread = seat.2;
+            object_state = b;
+            object = place.2;
+            place = proceeds.place;
+            at = follows.at;
+            stamp = stamp ∙ ap (λ (n : ℕ). suc (max n (last_stamp (of_object front o)))) thread_stamp ∙ ap (λ (n : ℕ). suc (max seat.0.stamp n)) object_stamp;
+            state = history.2.0.state;
+            lawful = follows.lawful;
+            objects = refl;
+            threads = refl;
+          };
+          may = proceeds.may;
+        },
+      )
+
+  abbrev Runs : List Entry → Type 0
+  Runs es = (k : JointState) × IsJointRun x es k × IsReached x (of_thread es) (of_object es) k
+
+  weave-from : (back front : List Entry) (j : JointState) → AreInRange x (front ++ back) → AreBeginnings x made seen (front ++ back)
+      → IsJointRun x front j → IsReached x (of_thread front) (of_object front) j → Runs (front ++ back)
+  weave-from [] front j range begins run reached = subst Runs (sym (append-nil front)) (j, run, reached)
+  weave-from (e ∷ back) front j range begins run reached =
+      let after = next front back e j range begins reached in
+      let same : front ++ e ∷ [] ++ back ≡ front ++ e ∷ back = append_assoc front (e ∷ []) back in
+      subst Runs same
+      (weave-from back (front ++ e ∷ []) after.0 (subst (AreInRange x) (sym same) range) (subst (AreBeginnings x made seen) (sym same) begins)
+      (Leads-snoc (JointStep x) front e (start x) j after.0 run after.1) (reached-step x front j e after.0 reached after.1))
+
+  -- a list that has of each thread and object a beginning of what it recorded is a joint run
+  pub weave : (es : List Entry) → AreInRange x es → AreBeginnings x made seen es → Runs es
+  weave es range begins = weave-from es [] (start x) range begins refl (reached-start x)
+
+module _ (x : ExerciseView) where
+  -- a run has its threads and objects where their own events leave them
+  pub run-reaches : (es : List Entry) (j : JointState) → IsJointRun x es j → IsReached x (of_thread es) (of_object es) j × AreInRange x es
+  run-reaches es j run = runs-keep (JointStep x) Holds keep es [] (start x) j (reached-start x, (λ e within. absurd (Contains-none e within))) run
+    where
+      Holds : List Entry → JointState → Type 0
+      Holds fs k = IsReached x (of_thread fs) (of_object fs) k × AreInRange x fs
+
+      keep : (fs : List Entry) (p : JointState) (e : Entry) (q : JointState) → Holds fs p → JointStep x p e q → Holds (fs ++ e ∷ []) q
+      keep fs p e q holds step =
+          let reached = holds.0 in
+          let among : e.object < length x.objects = subst (λ n. e.object < n) reached.object_count (slice_get_within p.objects e.object step.happens.object_state step.happens.object) in
+          let known : e.thread < length p.threads = slice_get_within p.threads e.thread step.happens.thread_state step.happens.thread in (
+            reached-step x fs p e q reached step,
+            λ f within. ⊎_elim
+                (λ (before : Contains fs f). holds.1 f before)
+                (λ (last : e ≡ f). subst (λ (g : Entry). (g.thread ≤ length x.programs) × (g.object < length x.objects)) last (omega (arith, known, reached.thread_count), among))
+                (Contains-push_cases fs e f within),
+          )
+
+  pub run-clocked : (es : List Entry) (j : JointState) → IsJointRun x es j → IsClocked (of_thread es) (of_object es)
+  run-clocked es j run e earlier later before after by_thread by_object =
+      let all = run-reaches es j run in
+      let kept : Contains (of_thread es e.thread) e = subst (λ (l : List Entry). Contains l e) (sym by_thread) (Contains-middle earlier later e) in
+      let within : Contains es e = (Contains-filtered (λ (f : Entry). f.thread == e.thread) es e kept).0 in
+      let known = all.1 e within in
+      let cut = Contains-parts es e within in
+      let parts = Leads-split (JointStep x) cut.0 (e ∷ cut.1) (start x) j (subst (λ (l : List Entry). IsJointRun x l j) cut.2 run) in
+      let step = parts.2.1 in
+      let reached = (run-reaches cut.0 parts.0 parts.1).0 in
+      let d = found_at x.objects e.object known.1 in
+      let seat = reached.threads e.thread known.0 in
+      let place = reached.objects e.object d.0 d.1 in
+      let own_thread : of_thread es e.thread ≡ of_thread cut.0 e.thread ++ e ∷ of_thread cut.1 e.thread =
+      ap (λ (l : List Entry). of_thread l e.thread) cut.2 ∙ filter-middle (λ (f : Entry). f.thread == e.thread) cut.0 e cut.1 (eq-eqb e.thread e.thread refl) in
+      let own_object : of_object es e.object ≡ of_object cut.0 e.object ++ e ∷ of_object cut.1 e.object =
+      ap (λ (l : List Entry). of_object l e.object) cut.2 ∙ filter-middle (λ (f : Entry). f.object == e.object) cut.0 e cut.1 (eq-eqb e.object e.object refl) in
+      let whole = all.0.threads e.thread known.0 in
+      let whole_object = all.0.objects e.object d.0 d.1 in
+      let thread_once : AppearOnce (of_thread es e.thread) = RunFrom-once (λ f. f.place) 1 (of_thread es e.thread) (thread-numbered x e.thread (of_thread es e.thread) whole.0 whole.1) in
+      let object_once : AppearOnce (of_object es e.object) = RunFrom-once (λ f. f.at) 1 (of_object es e.object) (object-numbered x (label_of x e.object d.0) (of_object es e.object) whole_object.0 whole_object.1) in
+      let same_thread : of_thread cut.0 e.thread ≡ earlier =
+      split-one (of_thread cut.0 e.thread) (of_thread cut.1 e.thread) earlier later e (subst AppearOnce own_thread thread_once) (sym own_thread ∙ by_thread) in
+      let same_object : of_object cut.0 e.object ≡ before =
+      split-one (of_object cut.0 e.object) (of_object cut.1 e.object) before after e (subst AppearOnce own_object object_once) (sym own_object ∙ by_object) in
+      let seat_one : step.happens.thread_state ≡ seat.0 = let found = step.happens.thread in let there = seat.2 in cc in
+      let place_one : step.happens.object_state ≡ object_state_at x e.object d.0 place.0 = let found = step.happens.object in let there = place.2 in cc in
+      let thread_stamp : step.happens.thread_state.stamp ≡ last_stamp earlier =
+      ap (λ (s : ThreadState). s.stamp) seat_one ∙ sym (thread-last x e.thread (of_thread cut.0 e.thread) seat.0 seat.1) ∙ ap last_stamp same_thread in
+      let object_stamp : step.happens.object_state.stamp ≡ last_stamp before =
+      ap (λ (b : ObjectState). b.stamp) place_one ∙ sym (object-last x (label_of x e.object d.0) (of_object cut.0 e.object) place.0 place.1) ∙ ap last_stamp same_object in
+      step.happens.stamp ∙ ap (λ (n : ℕ). suc (max n step.happens.object_state.stamp)) thread_stamp ∙ ap (λ (n : ℕ). suc (max (last_stamp earlier) n)) object_stamp
+
+  pub run-woven : (es : List Entry) (j : JointState) → IsJointRun x es j → IsWoven x es j
+  run-woven es j run = record { range = (run-reaches es j run).1; reached = (run-reaches es j run).0; clocked = run-clocked es j run }
+
+  pub reached-recorded : (made seen : ℕ → List Entry) (j : JointState) → IsReached x made seen j → IsRecorded x made seen
+  reached-recorded made seen j reached = record {
+    objects = λ o d found. let at = reached.objects o d found in (at.0, at.1);
+    threads = λ t known. let at = reached.threads t known in (at.0, at.1);
+  }
+
+  pub woven-run : (es : List Entry) (j : JointState) → IsWoven x es j → IsJointRun x es j
+  woven-run es j woven =
+      let begins : AreBeginnings x (of_thread es) (of_object es) es = record {
+        threads = λ t known. ([], sym (append-nil (of_thread es t)));
+        objects = λ o known. ([], sym (append-nil (of_object es o)));
+      } in
+      let run = weave x (of_thread es) (of_object es) (reached-recorded (of_thread es) (of_object es) j woven.reached) woven.clocked es woven.range begins in
+      subst (IsJointRun x es) (reached-one x (of_thread es) (of_object es) run.0 j run.2 woven.reached) run.1
+
+  pub run-one : (es : List Entry) (j k : JointState) → IsJointRun x es j → IsJointRun x es k → j ≡ k
+  run-one es j k left right = reached-one x (of_thread es) (of_object es) j k (run-reaches es j left).0 (run-reaches es k right).0

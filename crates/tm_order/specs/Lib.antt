@@ -1,0 +1,3 @@
+pub mod ThreadRuns
+pub mod Records
+pub mod Weaving
