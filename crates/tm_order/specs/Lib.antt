@@ -1,3 +1,5 @@
 pub mod ThreadRuns
 pub mod Records
 pub mod Weaving
+pub mod LinearExtensions
+pub mod StampOrder

@@ -1,0 +1,23 @@
+-- Orders of events that keep the causal order: its linear extensions.
+use Rattle.std.specs.Prelude.{◌≡◌, ◌↔◌, List, ◌∷◌, ◌++◌, Contains, IsPermutation}
+use Rattle.tm_base.specs.declared.events.Entry.{Entry}
+use Rattle.tm_base.specs.Orders.{HappenedBefore, IsDirect}
+use Rattle.tm_text.specs.Exercises.{ExerciseView}
+use Rattle.tm_replay.specs.JointStates.{JointState}
+use Rattle.tm_replay.specs.JointSteps.{IsJointRun}
+
+-- Each event stands after those events of the list that are its direct predecessors.
+abbrev pub KeepsPredecessors : List Entry → Type 0
+KeepsPredecessors es = (front back : List Entry) (a b : Entry) → es ≡ front ++ b ∷ back → Contains es a → IsDirect a b → Contains front a
+
+-- The order has the events, each after all that happened before it: it is a linear extension of
+-- happened-before (Lamport, CACM 1978).
+pub record IsLinearExtension (events order : List Entry) : Type 0 where
+  pub permutation : IsPermutation events order
+  pub after : (front back : List Entry) (a b : Entry) → order ≡ front ++ b ∷ back → HappenedBefore events a b → Contains front a
+
+-- Of the orders in which the events of a joint run can stand, those are joint runs in which each event stands
+-- after its direct predecessors; and all leave the same joint state.
+abbrev pub JointRunsRearrange : Type 0
+JointRunsRearrange = (x : ExerciseView) (es order : List Entry) (j : JointState) → IsJointRun x es j → IsPermutation es order
+    → IsJointRun x order j ↔ KeepsPredecessors order

@@ -1,0 +1,36 @@
+-- The order of events by their stamps.
+use Rattle.std.specs.Prelude.{◌≡◌, ◌<◌, ◌≤◌, ◌⊎◌, List, Contains, AllPairs, IsPermutation}
+use Rattle.tm_base.specs.declared.events.Entry.{Entry}
+use Rattle.tm_base.specs.Orders.{HappenedBefore, IsDirect, IsWellPlaced}
+use Rattle.tm_text.specs.Exercises.{ExerciseView}
+use Rattle.tm_replay.specs.JointStates.{JointState}
+use Rattle.tm_replay.specs.JointSteps.{IsJointRun}
+use Rattle.tm_order.specs.LinearExtensions.{IsLinearExtension}
+
+-- Lamport's clock condition, for direct predecessors: each event's stamp is greater than theirs.
+abbrev pub StampsRise : List Entry → Type 0
+StampsRise es = (a b : Entry) → Contains es a → Contains es b → IsDirect a b → a.stamp < b.stamp
+
+-- The first event has the smaller stamp, or of equal stamps no greater thread number: Lamport's total order
+-- (CACM 1978), in which threads break the ties.
+abbrev pub IsNotLater : Entry → Entry → Type 0
+IsNotLater a b = (a.stamp < b.stamp) ⊎ ((a.stamp ≡ b.stamp) × (a.thread ≤ b.thread))
+
+-- The events stand by rising stamp, and then by thread number.
+abbrev pub IsInStampOrder : List Entry → Type 0
+IsInStampOrder es = AllPairs IsNotLater es
+
+-- Where the events are well placed and meet the clock condition, none happened before itself, and they have
+-- one order by stamp, which is a linear extension of happened-before.
+pub record AreOrderedByStamps (es : List Entry) : Type 0 where
+  pub acyclic : (e : Entry) → HappenedBefore es e e → ⊥
+  pub extends : (order : List Entry) → IsPermutation es order → IsInStampOrder order → IsLinearExtension es order
+  pub one : (order other : List Entry) → IsPermutation es order → IsPermutation es other → IsInStampOrder order → IsInStampOrder other → order ≡ other
+
+abbrev pub StampsOrderEvents : Type 0
+StampsOrderEvents = (es : List Entry) → IsWellPlaced es → StampsRise es → AreOrderedByStamps es
+
+-- The events of a joint run, by rising stamp and then thread number, are a joint run, which leaves the same
+-- joint state.
+abbrev pub StampsOrderJointRuns : Type 0
+StampsOrderJointRuns = (x : ExerciseView) (es order : List Entry) (j : JointState) → IsJointRun x es j → IsPermutation es order → IsInStampOrder order → IsJointRun x order j
