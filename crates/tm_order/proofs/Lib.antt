@@ -6,3 +6,6 @@ pub mod Reaching
 pub mod WeavingLemmas
 pub mod Rearranging
 pub mod StampOrderLemmas
+pub mod ReadyLemmas
+pub mod LegalEventsLemmas
+pub mod RecordedRunsLemmas

@@ -1,7 +1,7 @@
 -- Lists of events that are numbered one after another, and how a list with the same events stands in the same
 -- order.
 use Rattle.std.proofs.Common.{◌≡◌, ℕ, suc, ◌<◌, ◌≤◌, Bool, ◌==◌, ⊎_elim, List, [], ◌∷◌, ◌++◌, filter, fold, Contains, refl, ap, sym, ◌∙◌, subst, arith}
-use Rattle.std.proofs.lemmas.Bool.{cases_eq, eqb-true}
+use Rattle.std.proofs.lemmas.Bool.{eqb-true}
 use Rattle.tm_base.specs.declared.events.Entry.{Entry}
 use Rattle.tm_base.specs.Runs.{Leads}
 use Rattle.tm_replay.proofs.Lists.{Contains-first, Contains-parts}
@@ -29,6 +29,15 @@ Leads-last step stamp on [] p q run = ap stamp (sym run)
 Leads-last step stamp on (e ∷ es) p q run =
     ap (λ (n : ℕ). fold (λ m f. f.stamp) n es) (sym (on p e run.0 run.1)) ∙ Leads-last step stamp on es run.0 q run.2
 
+-- what each step's event has, each event of a run has
+pub Leads-each : {S : Type 0} (step : S → Entry → S → Type 0) (Has : Entry → Type 0) → ((p : S) (e : Entry) (q : S) → step p e q → Has e)
+    → (es : List Entry) (p q : S) → Leads step p es q → (e : Entry) → Contains es e → Has e
+Leads-each step Has on [] p q run e within = absurd (Contains-none e within)
+Leads-each step Has on (f ∷ es) p q run e within = ⊎_elim
+    (λ (same : e ≡ f). subst Has (sym same) (on p f run.0 run.1))
+    (λ (later : Contains es e). Leads-each step Has on es run.0 q run.2 e later)
+    (Contains-first f es e within)
+
 -- no number is below the first
 pub RunFrom-low : (number : Entry → ℕ) (a : ℕ) (es : List Entry) (e : Entry) → RunFrom number a es → Contains es e → a ≤ number e
 RunFrom-low number a [] e run within = absurd (Contains-none e within)
@@ -43,21 +52,42 @@ RunFrom-once number a [] run = tt
 RunFrom-once number a (e ∷ es) run =
     ((λ again. let more = RunFrom-low number (suc a) es e run.1 again in omega (arith, more, run.0)), RunFrom-once number (suc a) es run.1)
 
--- before each event but the first stands the one with the number before
+-- directly before each event but the first stands the one with the number before
+pub record IsPair (number : Entry → ℕ) (es : List Entry) (e : Entry) : Type 0 where
+  pub front : List Entry
+  pub before : Entry
+  pub back : List Entry
+  pub parts : es ≡ front ++ before ∷ (e ∷ back)
+  pub next : suc (number before) ≡ number e
+
+pub RunFrom-pair : (number : Entry → ℕ) (a : ℕ) (es : List Entry) (e : Entry) → RunFrom number a es → Contains es e → a < number e → IsPair number es e
+RunFrom-pair number a [] e run within more = absurd (Contains-none e within)
+RunFrom-pair number a (f ∷ []) e run within more = ⊎_elim
+    (λ (same : e ≡ f). let is : number e ≡ number f = ap number same in absurd (omega (arith, is, run.0, more)))
+    (λ (later : Contains [] e). absurd (Contains-none e later))
+    (Contains-first f [] e within)
+RunFrom-pair number a (f ∷ g ∷ es) e run within more = ⊎_elim
+    (λ (same : e ≡ f). let is : number e ≡ number f = ap number same in absurd (omega (arith, is, run.0, more)))
+    (λ (later : Contains (g ∷ es) e). ⊎_elim
+    (λ (same : e ≡ g). record {
+      front = [];
+      before = f;
+      back = es;
+      parts = ap (λ h. f ∷ (h ∷ es)) (sym same);
+      next = let is : number e ≡ number g = ap number same in omega (arith, is, run.0, run.1.0);
+    })
+    (λ (behind : Contains es e).
+    let low = RunFrom-low number (suc (suc a)) es e run.1.1 behind in
+    let pair = RunFrom-pair number (suc a) (g ∷ es) e run.1 later (omega (arith, low)) in
+    record { front = f ∷ pair.front; before = pair.before; back = pair.back; parts = ap (λ l. f ∷ l) pair.parts; next = pair.next })
+    (Contains-first g es e later))
+    (Contains-first f (g ∷ es) e within)
+
 pub RunFrom-before : (number : Entry → ℕ) (a : ℕ) (es : List Entry) (e : Entry) → RunFrom number a es → Contains es e → a < number e
     → (b : Entry) × Contains es b × (suc (number b) ≡ number e)
-RunFrom-before number a [] e run within more = absurd (Contains-none e within)
-RunFrom-before number a (f ∷ es) e run within more = ⊎_elim
-    (λ (same : e ≡ f). let is : number e ≡ number f = ap number same in absurd (omega (arith, is, run.0, more)))
-    (λ (later : Contains es e). ⊎_elim
-    (λ (next : number e ≡ suc a). (f, Contains-head f es, omega (arith, next, run.0)))
-    (λ (apart : number e ≡ suc a → ⊥).
-    let low = RunFrom-low number (suc a) es e run.1 later in
-    let above : suc a < number e = omega (arith, low, apart) in
-    let before = RunFrom-before number (suc a) es e run.1 later above in
-    (before.0, Contains-next f es before.0 before.1, before.2))
-    (cases_eq (number e) (suc a)))
-    (Contains-first f es e within)
+RunFrom-before number a es e run within more =
+    let pair = RunFrom-pair number a es e run within more in
+    (pair.before, subst (λ (l : List Entry). Contains l pair.before) (sym pair.parts) (Contains-middle pair.front (e ∷ pair.back) pair.before), pair.next)
 
 -- each event stands behind the one with the number before
 abbrev pub KeepsNumbers : (Entry → ℕ) → List Entry → Type 0

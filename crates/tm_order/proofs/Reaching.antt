@@ -1,5 +1,5 @@
 -- A joint step takes its thread and its object on by one event each, and nothing else.
-use Rattle.std.proofs.Common.{◌≡◌, ℕ, zero, suc, ◌+◌, ◌<◌, ◌≤◌, ◌==◌, ⊎_elim, List, [], ◌∷◌, ◌++◌, fold, length, Some, slice_get, slice_set, refl, ap, sym, ◌∙◌, subst, arith, eq-eqb, ne_eqb, length-set}
+use Rattle.std.proofs.Common.{◌≡◌, ℕ, zero, suc, ◌+◌, ◌<◌, ◌≤◌, ◌==◌, ⊎_elim, List, [], ◌∷◌, ◌++◌, fold, length, Contains, Some, slice_get, slice_set, refl, ap, sym, ◌∙◌, subst, arith, eq-eqb, ne_eqb, length-set}
 use Rattle.std.proofs.lemmas.Bool.{cases_eq}
 use Rattle.std.proofs.lemmas.List.{length-map}
 use Rattle.std.proofs.lemmas.Option.{same_Some, slice_get-map, slice_get-get_or, slice_get_within}
@@ -17,7 +17,7 @@ use Rattle.tm_replay.proofs.Lists.{filter-snoc_in, filter-snoc_out, found_at, sl
 use Rattle.tm_order.specs.Records.{IsReached, label_of, last_stamp, object_state_at}
 use Rattle.tm_order.specs.ThreadRuns.{IsThreadRun, Proceeds, thread_at_start}
 use Rattle.tm_order.proofs.Elements.{same-places, slice_get-set_other}
-use Rattle.tm_order.proofs.Numbers.{RunFrom, Leads-numbered, Leads-last}
+use Rattle.tm_order.proofs.Numbers.{Leads-each, RunFrom, Leads-numbered, Leads-last}
 
 module _ (x : ExerciseView) where
   -- a thread's events are numbered from 1, and lead to one state, which knows the last stamp
@@ -43,6 +43,9 @@ module _ (x : ExerciseView) where
   pub thread-one : (t : ℕ) (es : List Entry) (a b : ThreadState) → IsThreadRun x t es a → IsThreadRun x t es b → a ≡ b
   thread-one t es a b left right = Leads-one (Proceeds x t) (λ p e q r one two. one.after ∙ sym two.after) es (thread_at_start x t) a b left right
 
+  pub thread-own : (t : ℕ) (es : List Entry) (s : ThreadState) → IsThreadRun x t es s → (e : Entry) → Contains es e → e.thread ≡ t
+  thread-own t es s run = Leads-each (Proceeds x t) (λ e. e.thread ≡ t) (λ p e q step. step.thread) es (thread_at_start x t) s run
+
   -- an object's events are numbered from 1, and its history's end knows the last stamp
   pub object-numbered : (l : Label) (es : List Entry) (p : HistoryState) → IsHistory l es p → RunFrom (λ e. e.at) 1 es
   object-numbered l es p run =
@@ -50,6 +53,9 @@ module _ (x : ExerciseView) where
 
   pub object-last : (l : Label) (es : List Entry) (p : HistoryState) → IsHistory l es p → last_stamp es ≡ p.stamp
   object-last l es p run = Leads-last (Follows l) (λ q. q.stamp) (λ q e r step. step.now_stamp) es (first_history_state l) p run
+
+  pub object-own : (l : Label) (es : List Entry) (p : HistoryState) → IsHistory l es p → (e : Entry) → Contains es e → e.object ≡ l.object
+  object-own l es p run = Leads-each (Follows l) (λ e. e.object ≡ l.object) (λ q e r step. step.object) es (first_history_state l) p run
 
   -- nothing has happened yet
   pub reached-start : IsReached x (of_thread []) (of_object []) (start x)
