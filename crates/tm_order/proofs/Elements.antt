@@ -75,6 +75,13 @@ split-one (y ∷ front) back (z ∷ front') back' x once same =
     let later : front ++ x ∷ back ≡ front' ++ x ∷ back' = cc same in
     ap (λ w. w ∷ front) first ∙ ap (λ l. z ∷ l) (split-one front back front' back' x once.1 later)
 
+-- what is kept in front of an element that passes is what stands in front of it among all that is kept
+pub kept-front : {A : Type 0} (p : A → Bool) (xs front back front' back' : List A) (x : A) → xs ≡ front ++ x ∷ back → p x ≡ true → AppearOnce (filter p xs)
+    → filter p xs ≡ front' ++ x ∷ back' → filter p front ≡ front'
+kept-front {A} p xs front back front' back' x parts passes once kept =
+    let whole : filter p xs ≡ filter p front ++ x ∷ filter p back = ap (filter p) parts ∙ filter-middle p front x back passes in
+    split-one (filter p front) (filter p back) front' back' x (subst AppearOnce whole once) (sym whole ∙ kept)
+
 -- no element at two places
 pub AppearOnce-stands : (es : List Entry) → StandsOnce es → AppearOnce es
 AppearOnce-stands [] once = tt
@@ -96,6 +103,10 @@ AppearOnce-stands (e ∷ es) once = (
 -- an element of a list at another place than the one that is set stays there
 pub slice_get-set_other : {A : Type 0} (xs : List A) (i k : ℕ) (v x : A) → (k ≡ i → ⊥) → slice_get xs k ≡ Some x → slice_get (slice_set xs i v) k ≡ Some x
 slice_get-set_other xs i k v x apart found = ⊎_elim (λ same. absurd (apart same.0)) (λ kept. kept) (slice_get-set_kept xs i k v x found)
+
+-- lists that have equal elements at a place
+pub same-found : {A : Type 0} (xs ys : List A) (i : ℕ) (x y : A) → slice_get xs i ≡ Some x → slice_get ys i ≡ Some y → x ≡ y → slice_get xs i ≡ slice_get ys i
+same-found xs ys i x y left right same = left ∙ ap (λ z. Some z) same ∙ sym right
 
 -- lists of one length that have the same at each place are equal
 pub same-places : {A : Type 0} (xs ys : List A) → length xs ≡ length ys → ((i : ℕ) → i < length xs → slice_get xs i ≡ slice_get ys i) → xs ≡ ys

@@ -13,7 +13,7 @@ use Rattle.tm_order.specs.LinearExtensions.{KeepsPredecessors}
 use Rattle.tm_order.proofs.PlacedLemmas.{placed-permuted}
 use Rattle.tm_order.proofs.Rearranging.{rearranged}
 use Rattle.tm_order.proofs.StampOrderLemmas.{run-sorts, stamped-rises}
-use Rattle.tm_order.proofs.WeavingLemmas.{run-one}
+use Rattle.tm_order.proofs.WeavingLemmas.{run-one, run-reaches}
 
 module _ (x : ExerciseView) (es : List Entry) (legal : AreLegal x es) where
   back : IsPermutation legal.order es
@@ -21,6 +21,7 @@ module _ (x : ExerciseView) (es : List Entry) (legal : AreLegal x es) where
 
   pub legal-runs : RunInEachOrder x es
   legal-runs = record {
+    range = λ e within. (run-reaches x legal.order legal.joint legal.run).1 e (Contains-permutation es legal.order e legal.permutation within);
     placed = placed-permuted legal.order es (runs-placed x legal.order legal.joint legal.run) back;
     rise = λ a b first second direct.
         stamped-rises legal.order (runs-stamped x legal.order legal.joint legal.run) a b (Contains-permutation es legal.order a legal.permutation first)

@@ -9,3 +9,5 @@ pub mod StampOrderLemmas
 pub mod ReadyLemmas
 pub mod LegalEventsLemmas
 pub mod RecordedRunsLemmas
+pub mod CutsLemmas
+pub mod ViewsLemmas

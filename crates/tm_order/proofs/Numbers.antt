@@ -5,7 +5,7 @@ use Rattle.std.proofs.lemmas.Bool.{eqb-true}
 use Rattle.tm_base.specs.declared.events.Entry.{Entry}
 use Rattle.tm_base.specs.Runs.{Leads}
 use Rattle.tm_replay.proofs.Lists.{Contains-first, Contains-parts}
-use Rattle.tm_order.proofs.Elements.{Contains-none, Contains-head, Contains-next, Contains-middle, Contains-filter, Contains-filtered, AppearOnce, AppearOnce-filter, filter-middle, split-one}
+use Rattle.tm_order.proofs.Elements.{Contains-none, Contains-head, Contains-next, Contains-middle, Contains-filter, Contains-filtered, AppearOnce, AppearOnce-filter, kept-front}
 
 -- the numbers of these events run from this one
 abbrev pub RunFrom : (Entry → ℕ) → ℕ → List Entry → Type 0
@@ -135,7 +135,5 @@ keeps-own key number i es once keeps front back p q parts within next =
     let from = Contains-filtered own es p within in
     let cut = Contains-parts es q was.0 in
     let before : Contains cut.0 p = keeps cut.0 cut.1 p q cut.2 from.0 (eqb-true (key p) i from.1 ∙ sym (eqb-true (key q) i was.1)) next in
-    let whole : filter own es ≡ filter own cut.0 ++ q ∷ filter own cut.1 = ap (filter own) cut.2 ∙ filter-middle own cut.0 q cut.1 was.1 in
-    let same : filter own cut.0 ≡ front = split-one (filter own cut.0) (filter own cut.1) front back q
-    (subst AppearOnce whole (AppearOnce-filter own es once)) (sym whole ∙ parts) in
+    let same : filter own cut.0 ≡ front = kept-front own es cut.0 cut.1 front back q cut.2 was.1 (AppearOnce-filter own es once) parts in
     subst (λ (l : List Entry). Contains l p) same (Contains-filter own cut.0 p before from.1)

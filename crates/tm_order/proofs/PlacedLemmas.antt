@@ -1,12 +1,14 @@
 -- Well placed lists: each event stands once, has all places before it, and keeps them in another order.
-use Rattle.std.proofs.Common.{◌≡◌, ℕ, zero, suc, ◌<◌, ◌≤◌, Bool, true, cond, ◌==◌, ◌&&◌, List, [], ◌∷◌, filter, length, count_by, Contains, refl, ap, sym, ◌∙◌, arith, eq-eqb}
+use Rattle.std.proofs.Common.{◌≡◌, ℕ, zero, suc, ◌<◌, ◌≤◌, Bool, true, cond, ◌==◌, ◌&&◌, ⊎_elim, List, [], ◌∷◌, ◌++◌, filter, length, count_by, Contains, refl, ap, sym, ◌∙◌, arith, eq-eqb, subst}
 use Rattle.std.specs.Prelude.{IsPermutation}
 use Rattle.std.proofs.lemmas.Bool.{and_from, eqb-true}
+use Rattle.std.proofs.lemmas.List.Elements.{Contains-append_left}
 use Rattle.std.proofs.lemmas.List.Sums.{length-filter}
 use Rattle.std.proofs.lemmas.List.Sorted.{sum_by-IsPermutation}
 use Rattle.tm_base.specs.declared.events.Entry.{Entry}
 use Rattle.tm_base.specs.Orders.{AreNumbered, IsWellPlaced}
-use Rattle.tm_order.proofs.Elements.{Contains-filter, Contains-filtered, Contains-head, Contains-next, AppearOnce}
+use Rattle.tm_replay.proofs.Lists.{Contains-first}
+use Rattle.tm_order.proofs.Elements.{Contains-filter, Contains-filtered, Contains-head, Contains-middle, Contains-next, Contains-none, AppearOnce}
 use Rattle.tm_order.proofs.CountsLemmas.{all-counted, count-all, count-filter, count-in, count-later, count-some, counted-one, counted-some, is_upto, is_upto-within}
 
 -- each number is one of the first ones
@@ -82,6 +84,14 @@ module _ (key number : Entry → ℕ) (es : List Entry) (numbered : (i : ℕ) �
       count-filter test (λ e. number e == k) order ∙ sum_by-IsPermutation (λ e. cond (test e && number e == k) 1 0) es order permutation
       ∙ sym (count-filter test (λ e. number e == k) es) ∙ numbered i k low (omega (arith, high, long))
 
+-- an element of the front stands once
+twice : (front back : List Entry) (e : Entry) → Contains front e → AppearOnce (front ++ e ∷ back) → ⊥
+twice [] back e before once = Contains-none e before
+twice (f ∷ front) back e before once = ⊎_elim
+    (λ (same : e ≡ f). once.0 (subst (Contains (front ++ e ∷ back)) same (Contains-middle front back e)))
+    (λ (later : Contains front e). twice front back e later once.1)
+    (Contains-first f front e before)
+
 pub placed-once : (es : List Entry) → IsWellPlaced es → AppearOnce es
 placed-once es placed = key-once (λ e. e.thread) (λ e. e.place) es placed.threads
 
@@ -90,3 +100,20 @@ placed-permuted es order placed permutation = record {
   threads = key-permuted (λ e. e.thread) (λ e. e.place) es placed.threads order permutation;
   objects = key-permuted (λ e. e.object) (λ e. e.at) es placed.objects order permutation;
 }
+
+-- the one before stands once, so it isn't the one that stands behind
+pub placed-apart : (es front back : List Entry) (a b : Entry) → IsWellPlaced es → es ≡ front ++ b ∷ back → Contains front a
+    → (a.thread ≡ b.thread → a.place ≡ b.place → ⊥) × (a.object ≡ b.object → a.at ≡ b.at → ⊥)
+placed-apart es front back a b placed parts before = (
+  λ keys numbers. apart (key-one (λ e. e.thread) (λ e. e.place) es placed.threads a b first second keys numbers),
+  λ keys numbers. apart (key-one (λ e. e.object) (λ e. e.at) es placed.objects a b first second keys numbers),
+)
+  where
+    first : Contains es a
+    first = subst (λ (l : List Entry). Contains l a) (sym parts) (Contains-append_left front (b ∷ back) a before)
+
+    second : Contains es b
+    second = subst (λ (l : List Entry). Contains l b) (sym parts) (Contains-middle front back b)
+
+    apart : a ≡ b → ⊥
+    apart same = twice front back b (subst (Contains front) same before) (subst AppearOnce parts (placed-once es placed))

@@ -16,8 +16,13 @@ use Rattle.tm_replay.specs.JointSteps.{JointStep, May, stepped, entered}
 use Rattle.tm_replay.proofs.Lists.{filter-snoc_in, filter-snoc_out, found_at, slice_get-set_same}
 use Rattle.tm_order.specs.Records.{IsReached, label_of, last_stamp, object_state_at}
 use Rattle.tm_order.specs.ThreadRuns.{IsThreadRun, Proceeds, thread_at_start}
-use Rattle.tm_order.proofs.Elements.{same-places, slice_get-set_other}
+use Rattle.tm_order.proofs.Elements.{same-found, same-places, slice_get-set_other}
 use Rattle.tm_order.proofs.Numbers.{Leads-each, RunFrom, Leads-numbered, Leads-last}
+
+-- joint states with equal objects and threads are equal
+joint-same : (j k : JointState) → j.objects ≡ k.objects → j.threads ≡ k.threads → j ≡ k
+joint-same j k objects threads =
+    ap (λ (l : List ObjectState). record { objects = l; threads = j.threads }) objects ∙ ap (λ (l : List ThreadState). record { objects = k.objects; threads = l }) threads
 
 module _ (x : ExerciseView) where
   -- a thread's events are numbered from 1, and lead to one state, which knows the last stamp
@@ -165,11 +170,11 @@ module _ (x : ExerciseView) where
       let d = found_at x.objects o (subst (λ n. o < n) left.object_count within) in
       let a = left.objects o d.0 d.1 in
       let b = right.objects o d.0 d.1 in
-      let one : a.0 ≡ b.0 = history-one (label_of x o d.0) (seen o) a.0 b.0 a.1 b.1 in
-      a.2 ∙ ap (λ (p : HistoryState). Some (object_state_at x o d.0 p)) one ∙ sym b.2) in
+      let one : object_state_at x o d.0 a.0 ≡ object_state_at x o d.0 b.0 = ap (object_state_at x o d.0) (history-one (label_of x o d.0) (seen o) a.0 b.0 a.1 b.1) in
+      same-found j.objects k.objects o (object_state_at x o d.0 a.0) (object_state_at x o d.0 b.0) a.2 b.2 one) in
       let threads : j.threads ≡ k.threads = same-places j.threads k.threads (left.thread_count ∙ sym right.thread_count) (λ t within.
       let known : t ≤ length x.programs = omega (arith, within, left.thread_count) in
       let a = left.threads t known in
       let b = right.threads t known in
-      a.2 ∙ ap (λ (s : ThreadState). Some s) (thread-one t (made t) a.0 b.0 a.1 b.1) ∙ sym b.2) in
-      ap (λ (l : List ObjectState). record { objects = l; threads = j.threads }) objects ∙ ap (λ (l : List ThreadState). record { objects = k.objects; threads = l }) threads
+      same-found j.threads k.threads t a.0 b.0 a.2 b.2 (thread-one t (made t) a.0 b.0 a.1 b.1)) in
+      joint-same j k objects threads

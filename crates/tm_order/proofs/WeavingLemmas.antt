@@ -16,7 +16,7 @@ use Rattle.tm_replay.proofs.ProjectionsLemmas.{runs-keep}
 use Rattle.tm_order.specs.Records.{IsClocked, IsReached, IsRecorded, label_of, last_stamp, object_state_at}
 use Rattle.tm_order.specs.ThreadRuns.{IsThreadRun, Proceeds, thread_at_start}
 use Rattle.tm_order.specs.Weaving.{AreInRange, IsWoven}
-use Rattle.tm_order.proofs.Elements.{Contains-none, Contains-middle, Contains-filtered, AppearOnce, filter-middle, split-one}
+use Rattle.tm_order.proofs.Elements.{Contains-none, Contains-middle, Contains-filtered, AppearOnce, filter-middle, kept-front}
 use Rattle.tm_order.proofs.Numbers.{RunFrom-once}
 use Rattle.tm_order.proofs.Reaching.{object-last, object-numbered, reached-one, reached-start, reached-step, thread-last, thread-numbered, thread-one}
 
@@ -125,38 +125,50 @@ module _ (x : ExerciseView) where
                 (Contains-push_cases fs e f within),
           )
 
-  pub run-clocked : (es : List Entry) (j : JointState) → IsJointRun x es j → IsClocked (of_thread es) (of_object es)
-  run-clocked es j run e earlier later before after by_thread by_object =
-      let all = run-reaches es j run in
-      let kept : Contains (of_thread es e.thread) e = subst (λ (l : List Entry). Contains l e) (sym by_thread) (Contains-middle earlier later e) in
-      let within : Contains es e = (Contains-filtered (λ (f : Entry). f.thread == e.thread) es e kept).0 in
-      let known = all.1 e within in
-      let cut = Contains-parts es e within in
-      let parts = Leads-split (JointStep x) cut.0 (e ∷ cut.1) (start x) j (subst (λ (l : List Entry). IsJointRun x l j) cut.2 run) in
-      let step = parts.2.1 in
-      let reached = (run-reaches cut.0 parts.0 parts.1).0 in
-      let d = found_at x.objects e.object known.1 in
-      let seat = reached.threads e.thread known.0 in
+  -- a step finds its thread and its object with the stamps of their last events
+  step-stamp : (front : List Entry) (j : JointState) (e : Entry) (k : JointState) → IsJointRun x front j → JointStep x j e k
+      → e.stamp ≡ suc (max (last_stamp (of_thread front e.thread)) (last_stamp (of_object front e.object)))
+  step-stamp front j e k run step =
+      let reached = (run-reaches front j run).0 in
+      let among : e.object < length x.objects = subst (λ n. e.object < n) reached.object_count (slice_get_within j.objects e.object step.happens.object_state step.happens.object) in
+      let known : e.thread < length j.threads = slice_get_within j.threads e.thread step.happens.thread_state step.happens.thread in
+      let d = found_at x.objects e.object among in
+      let seat = reached.threads e.thread (omega (arith, known, reached.thread_count)) in
       let place = reached.objects e.object d.0 d.1 in
-      let own_thread : of_thread es e.thread ≡ of_thread cut.0 e.thread ++ e ∷ of_thread cut.1 e.thread =
-      ap (λ (l : List Entry). of_thread l e.thread) cut.2 ∙ filter-middle (λ (f : Entry). f.thread == e.thread) cut.0 e cut.1 (eq-eqb e.thread e.thread refl) in
-      let own_object : of_object es e.object ≡ of_object cut.0 e.object ++ e ∷ of_object cut.1 e.object =
-      ap (λ (l : List Entry). of_object l e.object) cut.2 ∙ filter-middle (λ (f : Entry). f.object == e.object) cut.0 e cut.1 (eq-eqb e.object e.object refl) in
-      let whole = all.0.threads e.thread known.0 in
-      let whole_object = all.0.objects e.object d.0 d.1 in
-      let thread_once : AppearOnce (of_thread es e.thread) = RunFrom-once (λ f. f.place) 1 (of_thread es e.thread) (thread-numbered x e.thread (of_thread es e.thread) whole.0 whole.1) in
-      let object_once : AppearOnce (of_object es e.object) = RunFrom-once (λ f. f.at) 1 (of_object es e.object) (object-numbered x (label_of x e.object d.0) (of_object es e.object) whole_object.0 whole_object.1) in
-      let same_thread : of_thread cut.0 e.thread ≡ earlier =
-      split-one (of_thread cut.0 e.thread) (of_thread cut.1 e.thread) earlier later e (subst AppearOnce own_thread thread_once) (sym own_thread ∙ by_thread) in
-      let same_object : of_object cut.0 e.object ≡ before =
-      split-one (of_object cut.0 e.object) (of_object cut.1 e.object) before after e (subst AppearOnce own_object object_once) (sym own_object ∙ by_object) in
       let seat_one : step.happens.thread_state ≡ seat.0 = let found = step.happens.thread in let there = seat.2 in cc in
       let place_one : step.happens.object_state ≡ object_state_at x e.object d.0 place.0 = let found = step.happens.object in let there = place.2 in cc in
-      let thread_stamp : step.happens.thread_state.stamp ≡ last_stamp earlier =
-      ap (λ (s : ThreadState). s.stamp) seat_one ∙ sym (thread-last x e.thread (of_thread cut.0 e.thread) seat.0 seat.1) ∙ ap last_stamp same_thread in
-      let object_stamp : step.happens.object_state.stamp ≡ last_stamp before =
-      ap (λ (b : ObjectState). b.stamp) place_one ∙ sym (object-last x (label_of x e.object d.0) (of_object cut.0 e.object) place.0 place.1) ∙ ap last_stamp same_object in
-      step.happens.stamp ∙ ap (λ (n : ℕ). suc (max n step.happens.object_state.stamp)) thread_stamp ∙ ap (λ (n : ℕ). suc (max (last_stamp earlier) n)) object_stamp
+      let thread : step.happens.thread_state.stamp ≡ seat.0.stamp = ap (λ (s : ThreadState). s.stamp) seat_one in
+      let object : step.happens.object_state.stamp ≡ place.0.stamp = ap (λ (b : ObjectState). b.stamp) place_one in
+      let thread_last = thread-last x e.thread (of_thread front e.thread) seat.0 seat.1 in
+      let object_last = object-last x (label_of x e.object d.0) (of_object front e.object) place.0 place.1 in
+      omega (arith, step.happens.stamp, thread, object, thread_last, object_last)
+
+  -- the events of a thread, or of an object, stand once
+  run-once : (es : List Entry) (j : JointState) → IsJointRun x es j → (e : Entry) → Contains es e → AppearOnce (of_thread es e.thread) × AppearOnce (of_object es e.object)
+  run-once es j run e within =
+      let all = run-reaches es j run in
+      let known = all.1 e within in
+      let d = found_at x.objects e.object known.1 in
+      let seat = all.0.threads e.thread known.0 in
+      let place = all.0.objects e.object d.0 d.1 in (
+        RunFrom-once (λ f. f.place) 1 (of_thread es e.thread) (thread-numbered x e.thread (of_thread es e.thread) seat.0 seat.1),
+        RunFrom-once (λ f. f.at) 1 (of_object es e.object) (object-numbered x (label_of x e.object d.0) (of_object es e.object) place.0 place.1),
+      )
+
+  pub run-clocked : (es : List Entry) (j : JointState) → IsJointRun x es j → IsClocked (of_thread es) (of_object es)
+  run-clocked es j run e earlier later before after by_thread by_object =
+      let kept : Contains (of_thread es e.thread) e = subst (λ (l : List Entry). Contains l e) (sym by_thread) (Contains-middle earlier later e) in
+      let within : Contains es e = (Contains-filtered (λ (f : Entry). f.thread == e.thread) es e kept).0 in
+      let once = run-once es j run e within in
+      let cut = Contains-parts es e within in
+      let parts = Leads-split (JointStep x) cut.0 (e ∷ cut.1) (start x) j (subst (λ (l : List Entry). IsJointRun x l j) cut.2 run) in
+      let thread : of_thread cut.0 e.thread ≡ earlier =
+      kept-front (λ (f : Entry). f.thread == e.thread) es cut.0 cut.1 earlier later e cut.2 (eq-eqb e.thread e.thread refl) once.0 by_thread in
+      let object : of_object cut.0 e.object ≡ before =
+      kept-front (λ (f : Entry). f.object == e.object) es cut.0 cut.1 before after e cut.2 (eq-eqb e.object e.object refl) once.1 by_object in
+      let stamp = step-stamp cut.0 parts.0 e parts.2.0 parts.1 parts.2.1 in
+      subst (λ (l : List Entry). e.stamp ≡ suc (max (last_stamp l) (last_stamp before))) thread
+      (subst (λ (l : List Entry). e.stamp ≡ suc (max (last_stamp (of_thread cut.0 e.thread)) (last_stamp l))) object stamp)
 
   pub run-woven : (es : List Entry) (j : JointState) → IsJointRun x es j → IsWoven x es j
   run-woven es j run = record { range = (run-reaches es j run).1; reached = (run-reaches es j run).0; clocked = run-clocked es j run }

@@ -7,6 +7,7 @@ use Rattle.tm_replay.specs.JointStates.{JointState}
 use Rattle.tm_replay.specs.JointSteps.{IsJointRun, JointStep}
 use Rattle.tm_order.specs.LinearExtensions.{KeepsPredecessors}
 use Rattle.tm_order.specs.StampOrder.{IsInStampOrder, StampsRise}
+use Rattle.tm_order.specs.Weaving.{AreInRange}
 
 -- Some order of the events is a joint run.
 pub record AreLegal (x : ExerciseView) (es : List Entry) : Type 0 where
@@ -15,10 +16,11 @@ pub record AreLegal (x : ExerciseView) (es : List Entry) : Type 0 where
   pub joint : JointState
   pub run : IsJointRun x order joint
 
--- The events are well placed, their stamps rise from direct predecessors, and each order in which every
--- event stands after its direct predecessors is a joint run, as is the order by stamp; all of these leave one
--- joint state.
+-- The events are by threads of the exercise and on its objects, they are well placed, their stamps rise from
+-- direct predecessors, and each order in which every event stands after its direct predecessors is a joint
+-- run, as is the order by stamp; all of these leave one joint state.
 pub record RunInEachOrder (x : ExerciseView) (es : List Entry) : Type 0 where
+  pub range : AreInRange x es
   pub placed : IsWellPlaced es
   pub rise : StampsRise es
   pub joint : JointState

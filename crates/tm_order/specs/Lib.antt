@@ -6,3 +6,6 @@ pub mod StampOrder
 pub mod Ready
 pub mod LegalEvents
 pub mod RecordedRuns
+pub mod Cuts
+pub mod Places
+pub mod Views

@@ -16,6 +16,10 @@ pub record IsLinearExtension (events order : List Entry) : Type 0 where
   pub permutation : IsPermutation events order
   pub after : (front back : List Entry) (a b : Entry) → order ≡ front ++ b ∷ back → HappenedBefore events a b → Contains front a
 
+-- An order of the events that keeps direct predecessors keeps all that happened before.
+abbrev pub PredecessorsAreEnough : Type 0
+PredecessorsAreEnough = (es order : List Entry) → IsPermutation es order → KeepsPredecessors order ↔ IsLinearExtension es order
+
 -- Of the orders in which the events of a joint run can stand, those are joint runs in which each event stands
 -- after its direct predecessors; and all leave the same joint state.
 abbrev pub JointRunsRearrange : Type 0
