@@ -13,7 +13,7 @@ use Rattle.tm_order.specs.LinearExtensions.{KeepsPredecessors}
 use Rattle.tm_order.proofs.PlacedLemmas.{placed-permuted}
 use Rattle.tm_order.proofs.Rearranging.{rearranged}
 use Rattle.tm_order.proofs.StampOrderLemmas.{run-sorts, stamped-rises}
-use Rattle.tm_order.proofs.WeavingLemmas.{run-one, run-reaches}
+use Rattle.tm_order.proofs.InterleavingsLemmas.{run-one, run-reaches}
 
 module _ (x : ExerciseView) (es : List Entry) (legal : AreLegal x es) where
   back : IsPermutation legal.order es

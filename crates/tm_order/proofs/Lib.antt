@@ -3,8 +3,9 @@ pub mod Numbers
 pub mod CountsLemmas
 pub mod PlacedLemmas
 pub mod Reaching
-pub mod WeavingLemmas
+pub mod InterleavingsLemmas
 pub mod Rearranging
+pub mod SortingLemmas
 pub mod StampOrderLemmas
 pub mod ReadyLemmas
 pub mod LegalEventsLemmas

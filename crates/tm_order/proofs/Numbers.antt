@@ -39,7 +39,7 @@ Leads-each step Has on (f ∷ es) p q run e within = ⊎_elim
     (Contains-first f es e within)
 
 -- no number is below the first
-pub RunFrom-low : (number : Entry → ℕ) (a : ℕ) (es : List Entry) (e : Entry) → RunFrom number a es → Contains es e → a ≤ number e
+RunFrom-low : (number : Entry → ℕ) (a : ℕ) (es : List Entry) (e : Entry) → RunFrom number a es → Contains es e → a ≤ number e
 RunFrom-low number a [] e run within = absurd (Contains-none e within)
 RunFrom-low number a (f ∷ es) e run within = ⊎_elim
     (λ (same : e ≡ f). let is : number e ≡ number f = ap number same in omega (arith, is, run.0))
@@ -83,7 +83,7 @@ RunFrom-pair number a (f ∷ g ∷ es) e run within more = ⊎_elim
     (Contains-first g es e later))
     (Contains-first f (g ∷ es) e within)
 
-pub RunFrom-before : (number : Entry → ℕ) (a : ℕ) (es : List Entry) (e : Entry) → RunFrom number a es → Contains es e → a < number e
+RunFrom-before : (number : Entry → ℕ) (a : ℕ) (es : List Entry) (e : Entry) → RunFrom number a es → Contains es e → a < number e
     → (b : Entry) × Contains es b × (suc (number b) ≡ number e)
 RunFrom-before number a es e run within more =
     let pair = RunFrom-pair number a es e run within more in

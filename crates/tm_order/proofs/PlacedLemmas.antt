@@ -45,7 +45,7 @@ module _ (key number : Entry → ℕ) (es : List Entry) (numbered : (i : ℕ) �
       let range = numbered-within number (own (key e)) e (numbered (key e)) (among-own e within) in
       numbered (key e) (number e) range.0 range.1
 
-  pub key-once : AppearOnce es
+  key-once : AppearOnce es
   key-once = AppearOnce-counts (λ e f. key f == key e && number f == number e)
       (λ e. and_from (key e == key e) (number e == number e) (eq-eqb (key e) (key e) refl) (eq-eqb (number e) (number e) refl)) es
       (λ e within.
@@ -76,7 +76,7 @@ module _ (key number : Entry → ℕ) (es : List Entry) (numbered : (i : ℕ) �
           (at.0, from.0, eqb-true (key at.0) (key e) from.1, ap suc (eqb-true (number at.0) n at.2) ∙ sym is)
 
   -- in another order they are numbered too
-  pub key-permuted : (order : List Entry) → IsPermutation es order → (i : ℕ) → AreNumbered number (filter (λ e. key e == i) order)
+  key-permuted : (order : List Entry) → IsPermutation es order → (i : ℕ) → AreNumbered number (filter (λ e. key e == i) order)
   key-permuted order permutation i k low high =
       let test : Entry → Bool = λ e. key e == i in
       let long : length (filter test order) ≡ length (own i) =

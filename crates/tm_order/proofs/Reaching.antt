@@ -15,7 +15,7 @@ use Rattle.tm_replay.specs.JointStates.{JointState, ThreadState, ObjectState, st
 use Rattle.tm_replay.specs.JointSteps.{JointStep, May, stepped, entered}
 use Rattle.tm_replay.proofs.Lists.{filter-snoc_in, filter-snoc_out, found_at, slice_get-set_same}
 use Rattle.tm_order.specs.Records.{IsReached, label_of, last_stamp, object_state_at}
-use Rattle.tm_order.specs.ThreadRuns.{IsThreadRun, Proceeds, thread_at_start}
+use Rattle.tm_order.specs.ThreadRuns.{IsThreadRun, ThreadStep, thread_at_start}
 use Rattle.tm_order.proofs.Elements.{same-found, same-places, slice_get-set_other}
 use Rattle.tm_order.proofs.Numbers.{Leads-each, RunFrom, Leads-numbered, Leads-last}
 
@@ -28,10 +28,10 @@ module _ (x : ExerciseView) where
   -- a thread's events are numbered from 1, and lead to one state, which knows the last stamp
   pub thread-numbered : (t : ℕ) (es : List Entry) (s : ThreadState) → IsThreadRun x t es s → RunFrom (λ e. e.place) 1 es
   thread-numbered t es s run =
-      let on : (p : ThreadState) (e : Entry) (q : ThreadState) → Proceeds x t p e q → (e.place ≡ p.next) × (q.next ≡ suc e.place) = λ p e q step.
+      let on : (p : ThreadState) (e : Entry) (q : ThreadState) → ThreadStep x t p e q → (e.place ≡ p.next) × (q.next ≡ suc e.place) = λ p e q step.
       (let next : q.next ≡ e.place + 1 = ap (λ (r : ThreadState). r.next) step.after in (step.place, omega (arith, next))) in
       let first : (thread_at_start x t).next ≡ 1 = starts t in
-      subst (λ n. RunFrom (λ e. e.place) n es) first (Leads-numbered (Proceeds x t) (λ e. e.place) (λ p. p.next) on es (thread_at_start x t) s run)
+      subst (λ n. RunFrom (λ e. e.place) n es) first (Leads-numbered (ThreadStep x t) (λ e. e.place) (λ p. p.next) on es (thread_at_start x t) s run)
     where
       starts : (u : ℕ) → (thread_at_start x u).next ≡ 1
       starts zero = refl
@@ -39,17 +39,17 @@ module _ (x : ExerciseView) where
 
   pub thread-last : (t : ℕ) (es : List Entry) (s : ThreadState) → IsThreadRun x t es s → last_stamp es ≡ s.stamp
   thread-last t es s run =
-      ap (λ (n : ℕ). fold (λ m f. f.stamp) n es) (sym (starts t)) ∙ Leads-last (Proceeds x t) (λ p. p.stamp) (λ p e q step. ap (λ (r : ThreadState). r.stamp) step.after) es (thread_at_start x t) s run
+      ap (λ (n : ℕ). fold (λ m f. f.stamp) n es) (sym (starts t)) ∙ Leads-last (ThreadStep x t) (λ p. p.stamp) (λ p e q step. ap (λ (r : ThreadState). r.stamp) step.after) es (thread_at_start x t) s run
     where
       starts : (u : ℕ) → (thread_at_start x u).stamp ≡ 0
       starts zero = refl
       starts (suc u) = refl
 
   pub thread-one : (t : ℕ) (es : List Entry) (a b : ThreadState) → IsThreadRun x t es a → IsThreadRun x t es b → a ≡ b
-  thread-one t es a b left right = Leads-one (Proceeds x t) (λ p e q r one two. one.after ∙ sym two.after) es (thread_at_start x t) a b left right
+  thread-one t es a b left right = Leads-one (ThreadStep x t) (λ p e q r one two. one.after ∙ sym two.after) es (thread_at_start x t) a b left right
 
   pub thread-own : (t : ℕ) (es : List Entry) (s : ThreadState) → IsThreadRun x t es s → (e : Entry) → Contains es e → e.thread ≡ t
-  thread-own t es s run = Leads-each (Proceeds x t) (λ e. e.thread ≡ t) (λ p e q step. step.thread) es (thread_at_start x t) s run
+  thread-own t es s run = Leads-each (ThreadStep x t) (λ e. e.thread ≡ t) (λ p e q step. step.thread) es (thread_at_start x t) s run
 
   -- an object's events are numbered from 1, and its history's end knows the last stamp
   pub object-numbered : (l : Label) (es : List Entry) (p : HistoryState) → IsHistory l es p → RunFrom (λ e. e.at) 1 es
@@ -133,7 +133,7 @@ module _ (x : ExerciseView) where
         let found : slice_get j.threads t ≡ Some seat = subst (λ (i : ℕ). slice_get j.threads i ≡ Some seat) (sym same) step.happens.thread in
         let one : seat ≡ s = same_Some seat s (sym found ∙ was.2) in
         let may : May x t seat e.object e.op = subst (λ (i : ℕ). May x i seat e.object e.op) (sym same) step.may in
-        let proceeds : Proceeds x t s e (stepped s e) = record {
+        let goes_on : ThreadStep x t s e (stepped s e) = record {
           thread = sym same;
           place = step.happens.place ∙ ap (λ (r : ThreadState). r.next) one;
           may = subst (λ (r : ThreadState). May x t r e.object e.op) one may;
@@ -144,7 +144,7 @@ module _ (x : ExerciseView) where
         let stepped' : slice_get k.threads t ≡ Some (stepped seat e) =
         ap (λ (ss : List ThreadState). slice_get ss t) step.happens.threads ∙ ap (λ (i : ℕ). slice_get (slice_set j.threads i (stepped seat e)) t) (sym same) ∙ set in (
           stepped s e,
-          subst (λ (fs : List Entry). IsThreadRun x t fs (stepped s e)) (sym own) (Leads-snoc (Proceeds x t) (of_thread es t) e (thread_at_start x t) s (stepped s e) was.1 proceeds),
+          subst (λ (fs : List Entry). IsThreadRun x t fs (stepped s e)) (sym own) (Leads-snoc (ThreadStep x t) (of_thread es t) e (thread_at_start x t) s (stepped s e) was.1 goes_on),
           stepped' ∙ ap (λ (r : ThreadState). Some (stepped r e)) one,
         ))
         (λ (apart : t ≡ e.thread → ⊥).

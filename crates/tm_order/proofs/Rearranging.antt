@@ -17,12 +17,12 @@ use Rattle.tm_replay.proofs.JointOrderLemmas.{runs-placed}
 use Rattle.tm_order.specs.LinearExtensions.{KeepsPredecessors}
 use Rattle.tm_order.specs.Records.{IsReached, label_of}
 use Rattle.tm_order.specs.ThreadRuns.{IsThreadRun}
-use Rattle.tm_order.specs.Weaving.{AreInRange}
+use Rattle.tm_order.specs.Interleavings.{AreInRange}
 use Rattle.tm_order.proofs.Elements.{Contains-filter, Contains-filtered, Contains-middle, AppearOnce, AppearOnce-filter}
 use Rattle.tm_order.proofs.Numbers.{RunFrom, one-order, keeps-own}
 use Rattle.tm_order.proofs.PlacedLemmas.{placed-once, placed-permuted}
 use Rattle.tm_order.proofs.Reaching.{object-numbered, reached-one, thread-numbered}
-use Rattle.tm_order.proofs.WeavingLemmas.{AreBeginnings, reached-recorded, run-clocked, run-reaches, weave}
+use Rattle.tm_order.proofs.InterleavingsLemmas.{AreBeginnings, reached-recorded, run-clocked, run-reaches, interleave}
 
 pub direct-thread : (a b : Entry) → a.thread ≡ b.thread → suc a.place ≡ b.place → IsDirect a b
 direct-thread a b keys numbers =
@@ -97,9 +97,9 @@ module _ (x : ExerciseView) where
           objects = λ o known. ([], sym (same-objects o known) ∙ sym (append-nil (of_object order o)));
         } in
         let range : AreInRange x order = λ e within. (run-reaches x es j run).1 e (from e within) in
-        let woven = weave x (of_thread es) (of_object es) (reached-recorded x (of_thread es) (of_object es) j reached) (run-clocked x es j run) order range begins in
-        let same = reached-same (of_thread order) (of_object order) (of_thread es) (of_object es) woven.0 same-threads same-objects woven.2 in
-        subst (IsJointRun x order) (reached-one x (of_thread es) (of_object es) woven.0 j same reached) woven.1
+        let other = interleave x (of_thread es) (of_object es) (reached-recorded x (of_thread es) (of_object es) j reached) (run-clocked x es j run) order range begins in
+        let same = reached-same (of_thread order) (of_object order) (of_thread es) (of_object es) other.0 same-threads same-objects other.2 in
+        subst (IsJointRun x order) (reached-one x (of_thread es) (of_object es) other.0 j same reached) other.1
 
   -- in a joint run each event stands after its direct predecessors
   pub run-keeps : (es : List Entry) (j : JointState) → IsJointRun x es j → KeepsPredecessors es

@@ -17,7 +17,7 @@ use Rattle.tm_order.proofs.Numbers.{IsPair, RunFrom-pair}
 use Rattle.tm_order.proofs.ReadyLemmas.{AreComplete, HasBefore, nothing-held}
 use Rattle.tm_order.proofs.Rearranging.{direct-object, direct-thread, own-order, reached-same}
 use Rattle.tm_order.proofs.Reaching.{object-numbered, object-own, thread-numbered, thread-own}
-use Rattle.tm_order.proofs.WeavingLemmas.{AreBeginnings, weave}
+use Rattle.tm_order.proofs.InterleavingsLemmas.{AreBeginnings, interleave}
 
 -- the pair's first event is the last one before the second
 pair-parts : (number : Entry → ℕ) (es : List Entry) (e : Entry) (pair : IsPair number es e)
@@ -86,12 +86,12 @@ module _ (x : ExerciseView) (made seen : ℕ → List Entry) (recorded : IsRecor
             threads = λ t known. ([], sym (whole-thread t known) ∙ sym (append-nil (of_thread es t)));
             objects = λ o known. ([], sym (whole-object o known) ∙ sym (append-nil (of_object es o)));
           } in
-          let woven = weave x made seen recorded clocked es theirs.range begins in
+          let shown = interleave x made seen recorded clocked es theirs.range begins in
           record {
             nothing_held = refl;
-            joint = woven.0;
-            run = woven.1;
-            reached = reached-same x (of_thread es) (of_object es) made seen woven.0 whole-thread whole-object woven.2;
+            joint = shown.0;
+            run = shown.1;
+            reached = reached-same x (of_thread es) (of_object es) made seen shown.0 whole-thread whole-object shown.2;
             threads = whole-thread;
             objects = whole-object;
           }

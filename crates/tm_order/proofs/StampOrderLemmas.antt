@@ -16,6 +16,7 @@ use Rattle.tm_order.specs.LinearExtensions.{IsLinearExtension, KeepsPredecessors
 use Rattle.tm_order.specs.StampOrder.{AreOrderedByStamps, IsInStampOrder, IsNotLater, StampsRise}
 use Rattle.tm_order.proofs.Elements.{Contains-none, Contains-head, Contains-middle, Contains-next, Contains-filter, AppearOnce}
 use Rattle.tm_order.proofs.PlacedLemmas.{key-before, key-one, key-range, placed-once, placed-permuted}
+use Rattle.tm_order.proofs.SortingLemmas.{sorted-order}
 use Rattle.tm_order.proofs.Rearranging.{direct-thread, rearranged}
 
 -- of two of which none is later than the other the stamps don't fall
@@ -24,7 +25,7 @@ not_later-stamps a b (inl less) = omega (arith, less)
 not_later-stamps a b (inr tie) = omega (arith, tie.0)
 
 -- in stamp order an event isn't later than those behind it
-pub order-behind : (es : List Entry) → IsInStampOrder es → (front back : List Entry) (a b : Entry) → es ≡ front ++ a ∷ back → Contains back b → IsNotLater a b
+order-behind : (es : List Entry) → IsInStampOrder es → (front back : List Entry) (a b : Entry) → es ≡ front ++ a ∷ back → Contains back b → IsNotLater a b
 order-behind es order front back a b parts behind =
     let there : length front + suc behind.0 < length es = subst (λ (l : List Entry). length front + suc behind.0 < length l) (sym parts) (omega (arith, length-append front (a ∷ back), behind.1)) in
     let pair : IsNotLater (get_or es (length front) b) (get_or es (length front + suc behind.0) b) = order (length front) (length front + suc behind.0) b (omega arith) there in
@@ -41,7 +42,7 @@ chain-rises es rises (m ∷ between) a b chain =
     let first = rises a m chain.0 later.1 chain.1 in
     (omega (arith, first, later.0), chain.0, later.2)
 
-pub order-extends : (es order : List Entry) → StampsRise es → IsPermutation es order → IsInStampOrder order → IsLinearExtension es order
+order-extends : (es order : List Entry) → StampsRise es → IsPermutation es order → IsInStampOrder order → IsLinearExtension es order
 order-extends es order rises permutation sorted = record { permutation = permutation; after = after }
   where
     after : (front back : List Entry) (a b : Entry) → order ≡ front ++ b ∷ back → HappenedBefore es a b → Contains front a
@@ -120,6 +121,7 @@ module _ (es : List Entry) (placed : IsWellPlaced es) (rises : StampsRise es) wh
   pub stamps-order : AreOrderedByStamps es
   stamps-order = record {
     acyclic = λ e before. let rise = (chain-rises es rises before.0 e e before.1).0 in omega (arith, rise);
+    exists = sorted-order es;
     extends = λ order permutation sorted. order-extends es order rises permutation sorted;
     one = λ order other left right sorted sorted'.
         sorted-one order other (placed-once order (placed-permuted es order placed left)) (placed-once other (placed-permuted es other placed right))

@@ -7,7 +7,7 @@ use Rattle.tm_text.specs.Exercises.{ExerciseView}
 use Rattle.tm_replay.proofs.Lists.{Contains-parts}
 use Rattle.tm_order.specs.RecordedRuns.{AreRecorded}
 use Rattle.tm_order.specs.Records.{IsClocked, IsRecorded, last_stamp}
-use Rattle.tm_order.specs.Views.{Agree, AreMade, AreViews, KeepsClock}
+use Rattle.tm_order.specs.Views.{RecordsAgree, AreMade, AreViews, KeepsClock}
 use Rattle.tm_order.proofs.Elements.{Contains-filter, Contains-filtered, Contains-middle, AppearOnce, AppearOnce-stands, split-one}
 
 pub views-clocked : (made seen : ℕ → List Entry) (saw : ℕ → ℕ → List Entry) → AreViews made seen saw → ((o : ℕ) → StandsOnce (seen o))
@@ -21,7 +21,7 @@ views-clocked made seen saw views once keeps e earlier later before after by_thr
     let same : cut.0 ≡ before = split-one cut.0 (cut.1 ++ first.0) before after e (subst AppearOnce whole (AppearOnce-stands (seen e.object) (once e.object))) (sym whole ∙ by_object) in
     keeps e.thread e earlier later cut.0 cut.1 by_thread cut.2 ∙ ap (λ (l : List Entry). suc (max (last_stamp earlier) (last_stamp l))) same
 
-pub made-recorded : (x : ExerciseView) (made seen : ℕ → List Entry) (es : List Entry) → IsRecorded x made seen → Agree x made seen → AreMade x made es → AreRecorded x made seen es
+pub made-recorded : (x : ExerciseView) (made seen : ℕ → List Entry) (es : List Entry) → IsRecorded x made seen → RecordsAgree x made seen → AreMade x made es → AreRecorded x made seen es
 made-recorded x made seen es recorded agree are = record {
   range = λ e within. (are.range e within, among e within);
   thread = are.thread;

@@ -7,7 +7,7 @@ use Rattle.tm_replay.specs.JointStates.{JointState}
 use Rattle.tm_replay.specs.JointSteps.{IsJointRun, JointStep}
 use Rattle.tm_order.specs.LinearExtensions.{KeepsPredecessors}
 use Rattle.tm_order.specs.StampOrder.{IsInStampOrder, StampsRise}
-use Rattle.tm_order.specs.Weaving.{AreInRange}
+use Rattle.tm_order.specs.Interleavings.{AreInRange}
 
 -- Some order of the events is a joint run.
 pub record AreLegal (x : ExerciseView) (es : List Entry) : Type 0 where

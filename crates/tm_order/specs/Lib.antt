@@ -1,6 +1,6 @@
 pub mod ThreadRuns
 pub mod Records
-pub mod Weaving
+pub mod Interleavings
 pub mod LinearExtensions
 pub mod StampOrder
 pub mod Ready

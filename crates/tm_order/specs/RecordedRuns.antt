@@ -8,7 +8,7 @@ use Rattle.tm_replay.specs.JointSteps.{IsJointRun}
 use Rattle.tm_order.specs.LinearExtensions.{KeepsPredecessors}
 use Rattle.tm_order.specs.Ready.{NoneIsReady}
 use Rattle.tm_order.specs.Records.{IsClocked, IsReached, IsRecorded}
-use Rattle.tm_order.specs.Weaving.{AreInRange}
+use Rattle.tm_order.specs.Interleavings.{AreInRange}
 
 -- The events are those that the threads made, and those that the objects have: each is one of its thread's
 -- and one of its object's, and none of theirs is left out.

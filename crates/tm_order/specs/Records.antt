@@ -33,8 +33,13 @@ pub record IsReached (x : ExerciseView) (made seen : ℕ → List Entry) (j : Jo
 abbrev pub last_stamp : List Entry → ℕ
 last_stamp es = fold (λ stamp e. e.stamp) 0 es
 
--- Each event's stamp is 1 plus the greater of those of the event before it in its thread and the event
--- before it at its object: the stamps are Lamport's clocks (Lamport, CACM 1978).
+-- The event's stamp is 1 plus the greater of the last stamps of the events before it in its thread and of
+-- those before it at its object: Lamport's rule for clocks (CACM 1978).
+abbrev pub IsStampedAfter : List Entry → List Entry → Entry → Type 0
+IsStampedAfter earlier before e = e.stamp ≡ suc (max (last_stamp earlier) (last_stamp before))
+
+-- The stamps are Lamport's clocks: each event's comes after what its thread made before it and what its
+-- object had before it.
 abbrev pub IsClocked : (ℕ → List Entry) → (ℕ → List Entry) → Type 0
 IsClocked made seen = (e : Entry) (earlier later before after : List Entry) → made e.thread ≡ earlier ++ e ∷ later → seen e.object ≡ before ++ e ∷ after
-    → e.stamp ≡ suc (max (last_stamp earlier) (last_stamp before))
+    → IsStampedAfter earlier before e

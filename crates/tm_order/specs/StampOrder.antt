@@ -20,13 +20,15 @@ IsNotLater a b = (a.stamp < b.stamp) ⊎ ((a.stamp ≡ b.stamp) × (a.thread ≤
 abbrev pub IsInStampOrder : List Entry → Type 0
 IsInStampOrder es = AllPairs IsNotLater es
 
--- Where the events are well placed and meet the clock condition, none happened before itself, and they have
--- one order by stamp, which is a linear extension of happened-before.
+-- None of the events happened before itself, and they have exactly one order by stamp, which is a linear
+-- extension of happened-before.
 pub record AreOrderedByStamps (es : List Entry) : Type 0 where
   pub acyclic : (e : Entry) → HappenedBefore es e e → ⊥
+  pub exists : (order : List Entry) × IsPermutation es order × IsInStampOrder order
   pub extends : (order : List Entry) → IsPermutation es order → IsInStampOrder order → IsLinearExtension es order
   pub one : (order other : List Entry) → IsPermutation es order → IsPermutation es other → IsInStampOrder order → IsInStampOrder other → order ≡ other
 
+-- Well placed events that meet the clock condition are ordered by their stamps.
 abbrev pub StampsOrderEvents : Type 0
 StampsOrderEvents = (es : List Entry) → IsWellPlaced es → StampsRise es → AreOrderedByStamps es
 

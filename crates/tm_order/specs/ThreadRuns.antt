@@ -15,7 +15,7 @@ thread_at_start x (suc t) = unbegun (instructions_of x (suc t))
 
 -- The event is the thread's next one: it is by the thread, has its next place, and is one that the thread
 -- may do.
-pub record Proceeds (x : ExerciseView) (t : ℕ) (s : ThreadState) (e : Entry) (s' : ThreadState) : Type 0 where
+pub record ThreadStep (x : ExerciseView) (t : ℕ) (s : ThreadState) (e : Entry) (s' : ThreadState) : Type 0 where
   pub thread : e.thread ≡ t
   pub place : e.place ≡ s.next
   pub may : May x t s e.object e.op
@@ -24,4 +24,4 @@ pub record Proceeds (x : ExerciseView) (t : ℕ) (s : ThreadState) (e : Entry) (
 -- The events, in this order, are what the thread may do one after another by its program and the replies,
 -- and leave it in this state. Nothing is said of what the objects answer.
 abbrev pub IsThreadRun : ExerciseView → ℕ → List Entry → ThreadState → Type 0
-IsThreadRun x t es s = Leads (Proceeds x t) (thread_at_start x t) es s
+IsThreadRun x t es s = Leads (ThreadStep x t) (thread_at_start x t) es s

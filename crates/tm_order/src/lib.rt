@@ -10,13 +10,13 @@ ghost use Rattle.tm_order.specs.Ready.{AllEventsAreShown, SoonestFirstSorts};
 ghost use Rattle.tm_order.specs.RecordedRuns.{RecordsShowARun};
 ghost use Rattle.tm_order.specs.StampOrder.{StampsOrderEvents, StampsOrderJointRuns};
 ghost use Rattle.tm_order.specs.Views.{MadeEventsAreRecorded, ViewsAreClocked};
-ghost use Rattle.tm_order.specs.Weaving.{JointRunsAreWoven, JointRunsLeaveOneState};
+ghost use Rattle.tm_order.specs.Interleavings.{JointRunsAreInterleavings, JointRunsLeaveOneState};
 
-/// A list of events is a joint run exactly where each thread's events, in the list's order, are what
-/// that thread may do one after another, each object's events are a legal history of it, and the
-/// stamps are Lamport's clocks. Nothing else ties the threads and objects together.
-pub fn joint_runs_are_woven()
-    ensures { JointRunsAreWoven }
+/// A list of events is a joint run exactly where it interleaves what threads do as objects allow: in the
+/// list's order each thread's events are what that thread may do one after another, each object's are a
+/// legal history of it, and the stamps are Lamport's clocks. Nothing else ties threads and objects.
+pub fn joint_runs_are_interleavings()
+    ensures { JointRunsAreInterleavings }
 {}
 
 /// A joint run leaves one joint state.
@@ -52,8 +52,8 @@ pub fn places_are_apart()
 {}
 
 /// In a well placed list of events whose stamps rise from each direct predecessor, no event happened
-/// before itself, and the events have one order by rising stamp and then thread number, in which each
-/// stands after all that happened before it.
+/// before itself, and the events have exactly one order by rising stamp and then thread number, in
+/// which each stands after all that happened before it.
 pub fn stamps_order_events()
     ensures { StampsOrderEvents }
 {}

@@ -1,5 +1,5 @@
 -- The law, by what each thread and each object leaves.
-use Rattle.tm_order.proofs.WeavingLemmas.{run-one}
+use Rattle.tm_order.proofs.InterleavingsLemmas.{run-one}
 use Rattle.tm_order.proofs.joint_runs_leave_one_state.Goals as goal
 
 pub returns : goal.returns

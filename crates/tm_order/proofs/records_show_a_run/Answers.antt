@@ -1,4 +1,4 @@
--- The law, by weaving.
+-- The law, as an interleaving.
 use Rattle.tm_order.proofs.RecordedRunsLemmas.{records-show}
 use Rattle.tm_order.proofs.records_show_a_run.Goals as goal
 

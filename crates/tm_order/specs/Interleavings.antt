@@ -1,5 +1,5 @@
--- What makes a list of events a joint run, without any joint step: what its threads and its objects make
--- of it, each alone.
+-- The joint runs as interleavings of sequential processes: what threads and objects, each alone, make of a
+-- list of events, without any joint step.
 use Rattle.std.specs.Prelude.{◌≡◌, ◌<◌, ◌≤◌, ◌↔◌, List, length, Contains}
 use Rattle.tm_base.specs.declared.events.Entry.{Entry}
 use Rattle.tm_base.specs.Orders.{of_object, of_thread}
@@ -12,17 +12,17 @@ use Rattle.tm_order.specs.Records.{IsClocked, IsReached}
 abbrev pub AreInRange : ExerciseView → List Entry → Type 0
 AreInRange x es = (e : Entry) → Contains es e → (e.thread ≤ length x.programs) × (e.object < length x.objects)
 
--- The events of each thread, in the list's order, are a run of that thread, those of each object are a legal
--- history of it, and the stamps are Lamport's clocks. The joint state has all threads and objects where their
--- own events leave them.
-pub record IsWoven (x : ExerciseView) (es : List Entry) (j : JointState) : Type 0 where
+-- The list interleaves runs of the threads, and objects allow it: in the list's order the events of each thread
+-- are a run of that thread, those of each object are a legal history of it, and the stamps are Lamport's
+-- clocks. The joint state has all threads and objects where their own events leave them.
+pub record IsInterleaving (x : ExerciseView) (es : List Entry) (j : JointState) : Type 0 where
   pub range : AreInRange x es
   pub reached : IsReached x (of_thread es) (of_object es) j
   pub clocked : IsClocked (of_thread es) (of_object es)
 
--- The joint runs are the lists whose threads and objects, each alone, make of them what they may.
-abbrev pub JointRunsAreWoven : Type 0
-JointRunsAreWoven = (x : ExerciseView) (es : List Entry) (j : JointState) → IsJointRun x es j ↔ IsWoven x es j
+-- The joint runs are these interleavings.
+abbrev pub JointRunsAreInterleavings : Type 0
+JointRunsAreInterleavings = (x : ExerciseView) (es : List Entry) (j : JointState) → IsJointRun x es j ↔ IsInterleaving x es j
 
 -- A joint run leaves one joint state.
 abbrev pub JointRunsLeaveOneState : Type 0

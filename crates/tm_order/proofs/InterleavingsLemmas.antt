@@ -1,4 +1,4 @@
--- The joint runs are the woven lists.
+-- The joint runs are the interleavings of thread runs that objects allow.
 use Rattle.std.proofs.Common.{◌≡◌, ℕ, suc, ◌<◌, ◌≤◌, max, ◌==◌, ⊎_elim, List, [], ◌∷◌, ◌++◌, length, Contains, slice_set, refl, ap, sym, ◌∙◌, subst, arith, eq-eqb}
 use Rattle.std.proofs.lemmas.List.{append-nil, append_assoc}
 use Rattle.std.proofs.lemmas.List.Elements.{Contains-push_cases}
@@ -14,8 +14,8 @@ use Rattle.tm_replay.specs.JointSteps.{JointStep, IsJointRun, stepped, entered}
 use Rattle.tm_replay.proofs.Lists.{Contains-parts, found_at}
 use Rattle.tm_replay.proofs.ProjectionsLemmas.{runs-keep}
 use Rattle.tm_order.specs.Records.{IsClocked, IsReached, IsRecorded, label_of, last_stamp, object_state_at}
-use Rattle.tm_order.specs.ThreadRuns.{IsThreadRun, Proceeds, thread_at_start}
-use Rattle.tm_order.specs.Weaving.{AreInRange, IsWoven}
+use Rattle.tm_order.specs.ThreadRuns.{IsThreadRun, ThreadStep, thread_at_start}
+use Rattle.tm_order.specs.Interleavings.{AreInRange, IsInterleaving}
 use Rattle.tm_order.proofs.Elements.{Contains-none, Contains-middle, Contains-filtered, AppearOnce, filter-middle, kept-front}
 use Rattle.tm_order.proofs.Numbers.{RunFrom-once}
 use Rattle.tm_order.proofs.Reaching.{object-last, object-numbered, reached-one, reached-start, reached-step, thread-last, thread-numbered, thread-one}
@@ -53,12 +53,12 @@ module _ (x : ExerciseView) (made seen : ℕ → List Entry) (recorded : IsRecor
       let place = reached.objects o d.0 d.1 in
       let whole_run = recorded.threads t known.0 in
       let whole_history = recorded.objects o d.0 d.1 in
-      let run = Leads-split (Proceeds x t) (of_thread front t) (e ∷ (of_thread back t ++ mine.0)) (thread_at_start x t) whole_run.0
+      let run = Leads-split (ThreadStep x t) (of_thread front t) (e ∷ (of_thread back t ++ mine.0)) (thread_at_start x t) whole_run.0
       (subst (λ (fs : List Entry). IsThreadRun x t fs whole_run.0) by_thread whole_run.1) in
       let history = Leads-split (Follows l) (of_object front o) (e ∷ (of_object back o ++ theirs.0)) (first_history_state l) whole_history.0
       (subst (λ (fs : List Entry). IsHistory l fs whole_history.0) by_object whole_history.1) in
-      let proceeds : Proceeds x t seat.0 e run.2.0 =
-      subst (λ (s : ThreadState). Proceeds x t s e run.2.0) (thread-one x t (of_thread front t) run.0 seat.0 run.1 seat.1) run.2.1 in
+      let goes_on : ThreadStep x t seat.0 e run.2.0 =
+      subst (λ (s : ThreadState). ThreadStep x t s e run.2.0) (thread-one x t (of_thread front t) run.0 seat.0 run.1 seat.1) run.2.1 in
       let follows : Follows l place.0 e history.2.0 =
       subst (λ (p : HistoryState). Follows l p e history.2.0) (history-one l (of_object front o) history.0 place.0 history.1 place.1) history.2.1 in
       let stamp : e.stamp ≡ suc (max (last_stamp (of_thread front t)) (last_stamp (of_object front o))) =
@@ -76,7 +76,7 @@ module _ (x : ExerciseView) (made seen : ℕ → List Entry) (recorded : IsRecor
             thread = seat.2;
             object_state = b;
             object = place.2;
-            place = proceeds.place;
+            place = goes_on.place;
             at = follows.at;
             stamp = stamp ∙ ap (λ (n : ℕ). suc (max n (last_stamp (of_object front o)))) thread_stamp ∙ ap (λ (n : ℕ). suc (max seat.0.stamp n)) object_stamp;
             state = history.2.0.state;
@@ -84,26 +84,26 @@ module _ (x : ExerciseView) (made seen : ℕ → List Entry) (recorded : IsRecor
             objects = refl;
             threads = refl;
           };
-          may = proceeds.may;
+          may = goes_on.may;
         },
       )
 
   abbrev Runs : List Entry → Type 0
   Runs es = (k : JointState) × IsJointRun x es k × IsReached x (of_thread es) (of_object es) k
 
-  weave-from : (back front : List Entry) (j : JointState) → AreInRange x (front ++ back) → AreBeginnings x made seen (front ++ back)
+  interleave-from : (back front : List Entry) (j : JointState) → AreInRange x (front ++ back) → AreBeginnings x made seen (front ++ back)
       → IsJointRun x front j → IsReached x (of_thread front) (of_object front) j → Runs (front ++ back)
-  weave-from [] front j range begins run reached = subst Runs (sym (append-nil front)) (j, run, reached)
-  weave-from (e ∷ back) front j range begins run reached =
+  interleave-from [] front j range begins run reached = subst Runs (sym (append-nil front)) (j, run, reached)
+  interleave-from (e ∷ back) front j range begins run reached =
       let after = next front back e j range begins reached in
       let same : front ++ e ∷ [] ++ back ≡ front ++ e ∷ back = append_assoc front (e ∷ []) back in
       subst Runs same
-      (weave-from back (front ++ e ∷ []) after.0 (subst (AreInRange x) (sym same) range) (subst (AreBeginnings x made seen) (sym same) begins)
+      (interleave-from back (front ++ e ∷ []) after.0 (subst (AreInRange x) (sym same) range) (subst (AreBeginnings x made seen) (sym same) begins)
       (Leads-snoc (JointStep x) front e (start x) j after.0 run after.1) (reached-step x front j e after.0 reached after.1))
 
   -- a list that has of each thread and object a beginning of what it recorded is a joint run
-  pub weave : (es : List Entry) → AreInRange x es → AreBeginnings x made seen es → Runs es
-  weave es range begins = weave-from es [] (start x) range begins refl (reached-start x)
+  pub interleave : (es : List Entry) → AreInRange x es → AreBeginnings x made seen es → Runs es
+  interleave es range begins = interleave-from es [] (start x) range begins refl (reached-start x)
 
 module _ (x : ExerciseView) where
   -- a run has its threads and objects where their own events leave them
@@ -170,8 +170,8 @@ module _ (x : ExerciseView) where
       subst (λ (l : List Entry). e.stamp ≡ suc (max (last_stamp l) (last_stamp before))) thread
       (subst (λ (l : List Entry). e.stamp ≡ suc (max (last_stamp (of_thread cut.0 e.thread)) (last_stamp l))) object stamp)
 
-  pub run-woven : (es : List Entry) (j : JointState) → IsJointRun x es j → IsWoven x es j
-  run-woven es j run = record { range = (run-reaches es j run).1; reached = (run-reaches es j run).0; clocked = run-clocked es j run }
+  pub run-interleaves : (es : List Entry) (j : JointState) → IsJointRun x es j → IsInterleaving x es j
+  run-interleaves es j run = record { range = (run-reaches es j run).1; reached = (run-reaches es j run).0; clocked = run-clocked es j run }
 
   pub reached-recorded : (made seen : ℕ → List Entry) (j : JointState) → IsReached x made seen j → IsRecorded x made seen
   reached-recorded made seen j reached = record {
@@ -179,14 +179,14 @@ module _ (x : ExerciseView) where
     threads = λ t known. let at = reached.threads t known in (at.0, at.1);
   }
 
-  pub woven-run : (es : List Entry) (j : JointState) → IsWoven x es j → IsJointRun x es j
-  woven-run es j woven =
+  pub interleaving-run : (es : List Entry) (j : JointState) → IsInterleaving x es j → IsJointRun x es j
+  interleaving-run es j interleaving =
       let begins : AreBeginnings x (of_thread es) (of_object es) es = record {
         threads = λ t known. ([], sym (append-nil (of_thread es t)));
         objects = λ o known. ([], sym (append-nil (of_object es o)));
       } in
-      let run = weave x (of_thread es) (of_object es) (reached-recorded (of_thread es) (of_object es) j woven.reached) woven.clocked es woven.range begins in
-      subst (IsJointRun x es) (reached-one x (of_thread es) (of_object es) run.0 j run.2 woven.reached) run.1
+      let run = interleave x (of_thread es) (of_object es) (reached-recorded (of_thread es) (of_object es) j interleaving.reached) interleaving.clocked es interleaving.range begins in
+      subst (IsJointRun x es) (reached-one x (of_thread es) (of_object es) run.0 j run.2 interleaving.reached) run.1
 
   pub run-one : (es : List Entry) (j k : JointState) → IsJointRun x es j → IsJointRun x es k → j ≡ k
   run-one es j k left right = reached-one x (of_thread es) (of_object es) j k (run-reaches es j left).0 (run-reaches es k right).0
