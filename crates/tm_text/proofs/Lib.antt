@@ -13,3 +13,5 @@ mod ObjectsLemmas
 mod OwnNumbers
 mod SpelledLemmas
 mod ReadingsLemmas
+mod ThreadNumbers
+mod PrinterLemmas

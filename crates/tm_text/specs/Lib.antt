@@ -7,3 +7,5 @@ pub mod StoredObjects
 pub mod Programs
 pub mod StoredPrograms
 pub mod Readings
+pub mod SpelledLines
+pub mod CanonicalTexts

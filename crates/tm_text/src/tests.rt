@@ -202,3 +202,24 @@ fn each_beginning_of_a_text_is_read_or_refused_at_its_last_line(
     }
     Ok(())
 }
+
+/// A text with blanks, comments and a held thread, and its canonical text.
+const LOOSE: &[u8] = b"  mutex   m\r\n# x\n\nthread A held\n lock m\nend";
+
+const CANONICAL: &[u8] = b"mutex m\nthread A held\nlock m\nend\n";
+
+/// What a text of each kind of object and each form of instruction prints.
+const PRINTED: &[u8] = b"mutex m\nrwlock w\nsync c\nsem s 7\nmonitor h hoare 2\nmonitor n mesa 16\n\
+barrier b 64\nasync a 65535\nvar v -5\nthread A held\nlock m\nset r1 -2\ninc r1 3\nrepeat 2\nsend c r1\n\
+if r1 >= 5\nwait h 1\nend\nend\nwhile r1 != 0\nrecv a r2\nend\nend\nthread B\nsend a -1\nstart A\nend\n";
+
+#[test]
+fn the_canonical_text_has_one_space_between_words_and_no_ignored_lines(
+    rt: HostRuntime,
+) -> Result<(), Fail> {
+    for (text, canonical) in [(LOOSE, CANONICAL), (TEXT, PRINTED)] {
+        let exercise = read(rt.alloc(), text)?;
+        assert_eq!(rt; print(rt.alloc(), &exercise)?.as_slice(), canonical);
+    }
+    Ok(())
+}
