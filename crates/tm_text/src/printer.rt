@@ -1,6 +1,6 @@
-ghost use Rattle.std.specs.Prelude.{◌≡◌, ◌≤◌, ◌<◌, ◌++◌, ◌∷◌, true, length, slice_get, IfOk, OnOk, IfSome};
-ghost use Rattle.tm_lines.specs.declared.first_words.FirstWord.TheVariants.{Calls};
-ghost use Rattle.tm_text.specs.declared.values.Value.TheVariants.{Name as NameValue};
+ghost use Rattle.std.specs.Prelude.{◌≡◌, ◌≤◌, ◌<◌, ◌++◌, ◌∷◌, [], true, length, pos, slice_get, IfOk, OnOk, IfSome};
+ghost use Rattle.tm_lines.specs.declared.first_words.FirstWord.TheVariants.{Calls, Declares};
+ghost use Rattle.tm_text.specs.declared.values.Value.TheVariants.{Comparison as ComparisonValue, Name as NameValue, Number, Register};
 ghost use Rattle.tm_text.specs.CanonicalTexts.{canonical_text, line_text, lines_text};
 ghost use Rattle.tm_text.specs.Exercises.{instructions_of, is_instruction_on};
 ghost use Rattle.tm_text.specs.SpelledLines.{line_of_instruction, line_of_kind, lines_behind, lines_of_object, lines_of_program, values_of_operand};
@@ -10,7 +10,7 @@ use crate::values::{Value, push_values};
 use std::alloc::Global;
 use tm_base::{Bytes, Kind, Name, NoMemory, Opcode};
 use tm_lines::{Declarator, FirstWord};
-use tm_programs::{Instruction, Operand};
+use tm_programs::{Comparison, Instruction, Operand};
 
 /// The canonical text of the exercise: the lines that spell it, with one space between words, numbers in
 /// their shortest form, and LF after each line. `NoMemory` only where memory runs out.
@@ -58,73 +58,50 @@ fn push_declaration(
 {
     let name = Value::Name(name);
     match kind {
-        Kind::Mutex => push_line(alloc, out, FirstWord::Declares(Declarator::Mutex), &[name]),
-        Kind::Rw => push_line(alloc, out, FirstWord::Declares(Declarator::Rwlock), &[name]),
-        Kind::Sync => push_line(alloc, out, FirstWord::Declares(Declarator::Sync), &[name]),
-        Kind::Sem { value } => {
-            let start = Value::Number(i64::from(value));
-            push_line(
-                alloc,
-                out,
-                FirstWord::Declares(Declarator::Sem),
-                &[name, start],
-            )
-        }
+        Kind::Mutex => declare(alloc, out, Declarator::Mutex, &[name]),
+        Kind::Rw => declare(alloc, out, Declarator::Rwlock, &[name]),
+        Kind::Sync => declare(alloc, out, Declarator::Sync, &[name]),
+        Kind::Sem { value } => declare(alloc, out, Declarator::Sem, &[name, natural(value)]),
         Kind::Hoare { conditions } => {
-            let conditions = Value::Number(i64::from(conditions));
-            push_line(
-                alloc,
-                out,
-                FirstWord::Declares(Declarator::Monitor),
-                &[name, Value::Hoare, conditions],
-            )
+            let values = [name, Value::Hoare, natural(u32::from(conditions))];
+            declare(alloc, out, Declarator::Monitor, &values)
         }
         Kind::Mesa { conditions } => {
-            let conditions = Value::Number(i64::from(conditions));
-            push_line(
-                alloc,
-                out,
-                FirstWord::Declares(Declarator::Monitor),
-                &[name, Value::Mesa, conditions],
-            )
+            let values = [name, Value::Mesa, natural(u32::from(conditions))];
+            declare(alloc, out, Declarator::Monitor, &values)
         }
         Kind::Barrier { parties } => {
-            let parties = Value::Number(i64::from(parties));
-            push_line(
-                alloc,
-                out,
-                FirstWord::Declares(Declarator::Barrier),
-                &[name, parties],
-            )
+            declare(alloc, out, Declarator::Barrier, &[name, natural(parties)])
         }
         Kind::Async { capacity } => {
-            let capacity = Value::Number(i64::from(capacity));
-            push_line(
-                alloc,
-                out,
-                FirstWord::Declares(Declarator::Async),
-                &[name, capacity],
-            )
+            declare(alloc, out, Declarator::Async, &[name, natural(capacity)])
         }
-        Kind::Var { value } => push_line(
-            alloc,
-            out,
-            FirstWord::Declares(Declarator::Var),
-            &[name, Value::Number(value)],
-        ),
-        Kind::Thread { held: true, .. } => push_line(
-            alloc,
-            out,
-            FirstWord::Declares(Declarator::Thread),
-            &[name, Value::Held],
-        ),
-        Kind::Thread { held: false, .. } => push_line(
-            alloc,
-            out,
-            FirstWord::Declares(Declarator::Thread),
-            &[name],
-        ),
+        Kind::Var { value } => declare(alloc, out, Declarator::Var, &[name, Value::Number(value)]),
+        Kind::Thread { held: true, .. } => {
+            declare(alloc, out, Declarator::Thread, &[name, Value::Held])
+        }
+        Kind::Thread { held: false, .. } => declare(alloc, out, Declarator::Thread, &[name]),
     }
+}
+
+/// Appends the line that declares by this word, with these values.
+fn declare(
+    alloc: Global,
+    out: &mut Vec<u8>,
+    declarator: Declarator,
+    values: &[Value],
+) -> Result<(), NoMemory>
+    ensures { OnOk result (out.new.items ≡ out.old.items
+        ++ line_text (record { first = Declares declarator; values = values.now })) }
+{
+    push_line(alloc, out, FirstWord::Declares(declarator), values)
+}
+
+/// The value that is a natural number.
+fn natural(number: u32) -> Value
+    ensures { result ≡ Number (pos number) }
+{
+    Value::Number(i64::from(number))
 }
 
 /// Appends the lines of the thread's program, up to its `end`.
@@ -164,57 +141,56 @@ fn push_instruction(
             object,
             opcode,
             operand,
-        } => { push_call(alloc, out, exercise.name(object), opcode, operand) }
+        } => push_call(alloc, out, exercise.name(object), opcode, operand),
         Instruction::Set { register, value } => {
-            push_line(
-                alloc,
-                out,
-                FirstWord::Set,
-                &[Value::Register(register), Value::Number(value)],
-            )
+            push_line(alloc, out, FirstWord::Set, &change(register, value))
         }
         Instruction::Inc { register, value } => {
-            push_line(
-                alloc,
-                out,
-                FirstWord::Inc,
-                &[Value::Register(register), Value::Number(value)],
-            )
+            push_line(alloc, out, FirstWord::Inc, &change(register, value))
         }
         Instruction::Repeat { turns } => {
-            push_line(
-                alloc,
-                out,
-                FirstWord::Repeat,
-                &[Value::Number(i64::from(turns))],
-            )
+            push_line(alloc, out, FirstWord::Repeat, &[natural(turns)])
         }
         Instruction::While {
             register,
             comparison,
             value,
-        } => {
-            let values = [
-                Value::Register(register),
-                Value::Comparison(comparison),
-                Value::Number(value),
-            ];
-            push_line(alloc, out, FirstWord::While, &values)
-        }
+        } => push_line(
+            alloc,
+            out,
+            FirstWord::While,
+            &test(register, comparison, value),
+        ),
         Instruction::If {
             register,
             comparison,
             value,
-        } => {
-            let values = [
-                Value::Register(register),
-                Value::Comparison(comparison),
-                Value::Number(value),
-            ];
-            push_line(alloc, out, FirstWord::If, &values)
-        }
+        } => push_line(
+            alloc,
+            out,
+            FirstWord::If,
+            &test(register, comparison, value),
+        ),
         Instruction::End => push_line(alloc, out, FirstWord::End, &[]),
     }
+}
+
+/// The values of a line that changes the register by the number.
+fn change(register: u8, number: i64) -> [Value; 2]
+    ensures { result ≡ Register register ∷ Number number ∷ [] }
+{
+    [Value::Register(register), Value::Number(number)]
+}
+
+/// The values of a line that compares the register with the number.
+fn test(register: u8, comparison: Comparison, number: i64) -> [Value; 3]
+    ensures { result ≡ Register register ∷ ComparisonValue comparison ∷ Number number ∷ [] }
+{
+    [
+        Value::Register(register),
+        Value::Comparison(comparison),
+        Value::Number(number),
+    ]
 }
 
 /// Appends the line of a call of the object with this name.
@@ -229,24 +205,16 @@ fn push_call(
         ++ line_text (record { first = Calls opcode; values = NameValue name ∷ values_of_operand operand })) }
 {
     let name = Value::Name(name);
+    let first = FirstWord::Calls(opcode);
     match operand {
-        Operand::Nothing => push_line(alloc, out, FirstWord::Calls(opcode), &[name]),
+        Operand::Nothing => push_line(alloc, out, first, &[name]),
         Operand::Condition(condition) => {
-            let condition = Value::Number(i64::from(condition));
-            push_line(alloc, out, FirstWord::Calls(opcode), &[name, condition])
+            push_line(alloc, out, first, &[name, natural(u32::from(condition))])
         }
-        Operand::Number(value) => push_line(
-            alloc,
-            out,
-            FirstWord::Calls(opcode),
-            &[name, Value::Number(value)],
-        ),
-        Operand::Register(register) => push_line(
-            alloc,
-            out,
-            FirstWord::Calls(opcode),
-            &[name, Value::Register(register)],
-        ),
+        Operand::Number(value) => push_line(alloc, out, first, &[name, Value::Number(value)]),
+        Operand::Register(register) => {
+            push_line(alloc, out, first, &[name, Value::Register(register)])
+        }
     }
 }
 
