@@ -15,3 +15,9 @@ mod SpelledLemmas
 mod ReadingsLemmas
 mod ThreadNumbers
 mod PrinterLemmas
+mod SpelledForwards
+mod NamedNumbers
+mod SaidValueLemmas
+mod SaidForwards
+mod SpelledBack
+mod SpelledTexts

@@ -27,7 +27,7 @@ use Rattle.tm_text.proofs.SaidValues.{operand_taken, register_below, turns_few}
 use Rattle.tm_text.proofs.SaidNames.{IsFound, unnumbered}
 
 -- a word in the range of a monitor's conditions is one of them
-inside : (m j : ℕ) → int_le (pos j) (pos m -ℤ pos 1) ≡ true → j < m
+pub inside : (m j : ℕ) → int_le (pos j) (pos m -ℤ pos 1) ≡ true → j < m
 inside m j h =
     cond_both (ltb m 1) _ (pos (m - 1)) (λ r. int_le (pos j) r ≡ true → j < m)
     (λ t e. absurd (let no : false ≡ true = e in cc))

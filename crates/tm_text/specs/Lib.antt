@@ -9,3 +9,4 @@ pub mod StoredPrograms
 pub mod Readings
 pub mod SpelledLines
 pub mod CanonicalTexts
+pub mod SaidLines

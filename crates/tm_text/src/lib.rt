@@ -12,6 +12,7 @@ mod scripts;
 #[cfg(test)]
 mod tests;
 mod text_faults;
+mod text_laws;
 mod values;
 
 pub use exercises::{Declaration, Exercise};
@@ -20,4 +21,5 @@ pub use printer::print;
 pub use reader::read;
 pub use scripts::Script;
 pub use text_faults::TextFault;
+pub use text_laws::exercises_are_spelled;
 pub use tm_lines::{Fault, MOST_BYTES, MOST_OBJECTS};
