@@ -20,7 +20,7 @@ use Rattle.tm_mentor.specs.CommandLine.{SpellsNoRun, SpellsRun}
 use Rattle.tm_session.specs.declared.rules.Rules.{Rules}
 use Rattle.tm_mentor.specs.Refusals.{line_of, status_of}
 use Rattle.tm_mentor.specs.Outside.{Input, Output}
-use Rattle.tm_mentor.specs.Found.{IsCause, IsNoExercise}
+use Rattle.tm_mentor.specs.FoundCommands.{IsCause, IsNoExercise}
 use Rattle.tm_mentor.specs.Outcomes.{Answers, Forgoes, Sends, outcome_of, run_status, statuses, end_status, unless_failed, IsWritten}
 
 -- every status is one of these

@@ -2,6 +2,6 @@ pub mod CommandLine
 pub mod ChosenSettings
 pub mod Refusals
 pub mod Outside
-pub mod Found
+pub mod FoundCommands
 pub mod Outcomes
 pub mod Processes

@@ -6,7 +6,7 @@ use Rattle.tm_base.specs.declared.ends.End.TheVariants.{Done, Stuck, Budget}
 use Rattle.tm_outside.specs.Appending.{AppendsPrefix}
 use Rattle.tm_text.specs.Exercises.{ExerciseView}
 use Rattle.tm_replay.specs.JointStates.{JointState}
-use Rattle.tm_replay.specs.Closing.{HasClosedPrefixes}
+use Rattle.tm_replay.specs.ClosedPrefixes.{HasClosedPrefixes}
 use Rattle.tm_replay.specs.Ends.{EndsAs}
 use Rattle.tm_replay.specs.JointOrder.{AreOrdered}
 use Rattle.tm_replay.specs.JointSteps.{IsJointRun}
@@ -21,7 +21,7 @@ use Rattle.tm_mentor.specs.declared.answers.Answer.TheVariants.{Refused, Ran, No
 use Rattle.tm_mentor.specs.declared.outcomes.Outcome.{Outcome}
 use Rattle.tm_mentor.specs.Refusals.{line_of, status_of}
 use Rattle.tm_mentor.specs.Outside.{Input, Output}
-use Rattle.tm_mentor.specs.Found.{IsCause, IsFound, IsUnknown}
+use Rattle.tm_mentor.specs.FoundCommands.{IsCause, IsFound, IsUnknown}
 
 -- All statuses that there are.
 abbrev pub statuses : List ℕ

@@ -1,7 +1,7 @@
 ghost use Rattle.std.specs.Prelude.{◌≡◌, ◌≤◌};
 ghost use Rattle.tm_mentor.specs.CommandLine.{SpellsNoRun};
 ghost use Rattle.tm_mentor.specs.Outside.{input_of, output_of};
-ghost use Rattle.tm_mentor.specs.Found.{ReadsAtMost};
+ghost use Rattle.tm_mentor.specs.FoundCommands.{ReadsAtMost};
 ghost use Rattle.tm_mentor.specs.Outcomes.{Answers};
 
 use crate::commands::{Command, CommandError, read_command};

@@ -1,7 +1,7 @@
 ghost use Rattle.std.specs.Prelude.{◌≡◌, ◌≤◌, MatchResult};
 ghost use Rattle.tm_mentor.specs.CommandLine.{SpellsNoRun};
 ghost use Rattle.tm_mentor.specs.Outside.{input_of};
-ghost use Rattle.tm_mentor.specs.Found.{HasCommand, IsCommandError, ReadsAtMost};
+ghost use Rattle.tm_mentor.specs.FoundCommands.{HasCommand, IsCommandError, ReadsAtMost};
 
 use crate::command_line::spell_run;
 use crate::refusals::Refusal;

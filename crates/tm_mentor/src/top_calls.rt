@@ -9,7 +9,7 @@ ghost use Rattle.tm_mentor.specs.declared.refusals.Refusal.{Refusal};
 ghost use Rattle.tm_mentor.specs.CommandLine.{SpellsNoRun, SpellsRun};
 ghost use Rattle.tm_mentor.specs.Refusals.{line_of, status_of};
 ghost use Rattle.tm_mentor.specs.Outside.{input_of, output_of};
-ghost use Rattle.tm_mentor.specs.Found.{IsCause, IsNoExercise, ReadsAtMost};
+ghost use Rattle.tm_mentor.specs.FoundCommands.{IsCause, IsNoExercise, ReadsAtMost};
 ghost use Rattle.tm_mentor.specs.Outcomes.{statuses, end_status, run_status, Forgoes, IsWritten, Runs, RunsNothing};
 
 use crate::answers::carry_out;

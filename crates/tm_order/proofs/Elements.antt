@@ -4,7 +4,7 @@ use Rattle.std.proofs.lemmas.List.Elements.{filter-append, Contains-append_right
 use Rattle.std.proofs.lemmas.Option.{same_Some}
 use Rattle.tm_base.specs.Orders.{StandsOnce}
 use Rattle.tm_base.specs.declared.events.Entry.{Entry}
-use Rattle.tm_replay.proofs.Lists.{Contains-first, slice_get-set_kept}
+use Rattle.tm_replay.proofs.SliceLemmas.{Contains-first, slice_get-set_kept}
 
 -- nothing is an element of the empty list
 pub Contains-none : {A : Type 0} (x : A) → Contains [] x → ⊥

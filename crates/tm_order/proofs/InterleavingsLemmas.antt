@@ -11,14 +11,14 @@ use Rattle.tm_laws.proofs.RunsLemmas.{Leads-snoc, Leads-split}
 use Rattle.tm_text.specs.Exercises.{ExerciseView}
 use Rattle.tm_replay.specs.JointStates.{JointState, ThreadState, ObjectState, start}
 use Rattle.tm_replay.specs.JointSteps.{JointStep, IsJointRun, stepped, entered}
-use Rattle.tm_replay.proofs.Lists.{Contains-parts, found_at}
+use Rattle.tm_replay.proofs.SliceLemmas.{Contains-parts, found_at}
 use Rattle.tm_replay.proofs.ProjectionsLemmas.{runs-keep}
 use Rattle.tm_order.specs.Records.{IsClocked, IsReached, IsRecorded, label_of, last_stamp, object_state_at}
 use Rattle.tm_order.specs.ThreadRuns.{IsThreadRun, ThreadStep, thread_at_start}
 use Rattle.tm_order.specs.Interleavings.{AreInRange, IsInterleaving}
 use Rattle.tm_order.proofs.Elements.{Contains-none, Contains-middle, Contains-filtered, AppearOnce, filter-middle, kept-front}
 use Rattle.tm_order.proofs.Numbers.{RunFrom-once}
-use Rattle.tm_order.proofs.Reaching.{object-last, object-numbered, reached-one, reached-start, reached-step, thread-last, thread-numbered, thread-one}
+use Rattle.tm_order.proofs.ReachedStates.{object-last, object-numbered, reached-one, reached-start, reached-step, thread-last, thread-numbered, thread-one}
 
 -- the first list is the beginning of the second
 abbrev pub Begins : List Entry → List Entry → Type 0

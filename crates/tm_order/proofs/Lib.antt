@@ -2,7 +2,7 @@ pub mod Elements
 pub mod Numbers
 pub mod CountsLemmas
 pub mod PlacedLemmas
-pub mod Reaching
+pub mod ReachedStates
 pub mod InterleavingsLemmas
 pub mod Rearranging
 pub mod SortingLemmas

@@ -4,7 +4,7 @@ use Rattle.std.proofs.Common.{◌≡◌, ℕ, suc, ◌<◌, ◌≤◌, Bool, ◌
 use Rattle.std.proofs.lemmas.Bool.{eqb-true}
 use Rattle.tm_base.specs.declared.events.Entry.{Entry}
 use Rattle.tm_base.specs.Runs.{Leads}
-use Rattle.tm_replay.proofs.Lists.{Contains-first, Contains-parts}
+use Rattle.tm_replay.proofs.SliceLemmas.{Contains-first, Contains-parts}
 use Rattle.tm_order.proofs.Elements.{Contains-none, Contains-head, Contains-next, Contains-middle, Contains-filter, Contains-filtered, AppearOnce, AppearOnce-filter, kept-front}
 
 -- the numbers of these events run from this one

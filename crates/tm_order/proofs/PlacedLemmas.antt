@@ -7,7 +7,7 @@ use Rattle.std.proofs.lemmas.List.Sums.{length-filter}
 use Rattle.std.proofs.lemmas.List.Sorted.{sum_by-IsPermutation}
 use Rattle.tm_base.specs.declared.events.Entry.{Entry}
 use Rattle.tm_base.specs.Orders.{AreNumbered, IsWellPlaced}
-use Rattle.tm_replay.proofs.Lists.{Contains-first}
+use Rattle.tm_replay.proofs.SliceLemmas.{Contains-first}
 use Rattle.tm_order.proofs.Elements.{Contains-filter, Contains-filtered, Contains-head, Contains-middle, Contains-next, Contains-none, AppearOnce}
 use Rattle.tm_order.proofs.CountsLemmas.{all-counted, count-all, count-filter, count-in, count-later, count-some, counted-one, counted-some, is_upto, is_upto-within}
 

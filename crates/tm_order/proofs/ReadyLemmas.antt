@@ -6,7 +6,7 @@ use Rattle.std.proofs.lemmas.List.Elements.{Contains-append_cases, Contains-appe
 use Rattle.std.proofs.lemmas.List.Sorted.{Contains-permutation, IsPermutation-sym}
 use Rattle.tm_base.specs.declared.events.Entry.{Entry}
 use Rattle.tm_base.specs.Orders.{IsWellPlaced}
-use Rattle.tm_replay.proofs.Lists.{Contains-first}
+use Rattle.tm_replay.proofs.SliceLemmas.{Contains-first}
 use Rattle.tm_order.specs.Ready.{IsShownBefore, NoneIsReady, ShowsSoonest}
 use Rattle.tm_order.specs.StampOrder.{IsInStampOrder, IsNotLater, StampsRise}
 use Rattle.tm_order.proofs.Elements.{Contains-head, Contains-next}

@@ -11,8 +11,8 @@ use Rattle.tm_base.specs.Orders.{of_object, of_thread, IsDirect}
 use Rattle.tm_text.specs.Exercises.{ExerciseView}
 use Rattle.tm_replay.specs.JointStates.{JointState}
 use Rattle.tm_replay.specs.JointSteps.{IsJointRun}
-use Rattle.tm_replay.proofs.Lists.{found_at}
-use Rattle.tm_replay.proofs.ClosingLemmas.{prefixes-are_closed}
+use Rattle.tm_replay.proofs.SliceLemmas.{found_at}
+use Rattle.tm_replay.proofs.ClosedPrefixesLemmas.{prefixes-are_closed}
 use Rattle.tm_replay.proofs.JointOrderLemmas.{runs-placed}
 use Rattle.tm_order.specs.LinearExtensions.{KeepsPredecessors}
 use Rattle.tm_order.specs.Records.{IsReached, label_of}
@@ -21,7 +21,7 @@ use Rattle.tm_order.specs.Interleavings.{AreInRange}
 use Rattle.tm_order.proofs.Elements.{Contains-filter, Contains-filtered, Contains-middle, AppearOnce, AppearOnce-filter}
 use Rattle.tm_order.proofs.Numbers.{RunFrom, one-order, keeps-own}
 use Rattle.tm_order.proofs.PlacedLemmas.{placed-once, placed-permuted}
-use Rattle.tm_order.proofs.Reaching.{object-numbered, reached-one, thread-numbered}
+use Rattle.tm_order.proofs.ReachedStates.{object-numbered, reached-one, thread-numbered}
 use Rattle.tm_order.proofs.InterleavingsLemmas.{AreBeginnings, reached-recorded, run-clocked, run-reaches, interleave}
 
 pub direct-thread : (a b : Entry) → a.thread ≡ b.thread → suc a.place ≡ b.place → IsDirect a b

@@ -7,7 +7,7 @@ use Rattle.std.proofs.lemmas.List.Sums.{fold_push}
 use Rattle.tm_base.specs.declared.events.Entry.{Entry}
 use Rattle.tm_base.specs.Orders.{StandsOnce, of_object, of_thread}
 use Rattle.tm_text.specs.Exercises.{ExerciseView}
-use Rattle.tm_replay.proofs.Lists.{Contains-parts, found_at}
+use Rattle.tm_replay.proofs.SliceLemmas.{Contains-parts, found_at}
 use Rattle.tm_order.specs.LinearExtensions.{KeepsPredecessors}
 use Rattle.tm_order.specs.Ready.{NoneIsReady}
 use Rattle.tm_order.specs.RecordedRuns.{AreRecorded, IsWholeRun}
@@ -16,7 +16,7 @@ use Rattle.tm_order.proofs.Elements.{Contains-middle, AppearOnce, AppearOnce-sta
 use Rattle.tm_order.proofs.Numbers.{IsPair, RunFrom-pair}
 use Rattle.tm_order.proofs.ReadyLemmas.{AreComplete, HasBefore, nothing-held}
 use Rattle.tm_order.proofs.Rearranging.{direct-object, direct-thread, own-order, reached-same}
-use Rattle.tm_order.proofs.Reaching.{object-numbered, object-own, thread-numbered, thread-own}
+use Rattle.tm_order.proofs.ReachedStates.{object-numbered, object-own, thread-numbered, thread-own}
 use Rattle.tm_order.proofs.InterleavingsLemmas.{AreBeginnings, interleave}
 
 -- the pair's first event is the last one before the second

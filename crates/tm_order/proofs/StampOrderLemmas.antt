@@ -10,7 +10,7 @@ use Rattle.tm_base.specs.Orders.{HappenedBefore, IsChain, IsStamped, IsWellPlace
 use Rattle.tm_text.specs.Exercises.{ExerciseView}
 use Rattle.tm_replay.specs.JointStates.{JointState}
 use Rattle.tm_replay.specs.JointSteps.{IsJointRun}
-use Rattle.tm_replay.proofs.Lists.{Contains-first}
+use Rattle.tm_replay.proofs.SliceLemmas.{Contains-first}
 use Rattle.tm_replay.proofs.JointOrderLemmas.{runs-stamped}
 use Rattle.tm_order.specs.LinearExtensions.{IsLinearExtension, KeepsPredecessors}
 use Rattle.tm_order.specs.StampOrder.{AreOrderedByStamps, IsInStampOrder, IsNotLater, StampsRise}

@@ -4,7 +4,7 @@ use Rattle.std.proofs.lemmas.List.{append_assoc}
 use Rattle.tm_base.specs.declared.events.Entry.{Entry}
 use Rattle.tm_base.specs.Orders.{StandsOnce, of_object, of_thread}
 use Rattle.tm_text.specs.Exercises.{ExerciseView}
-use Rattle.tm_replay.proofs.Lists.{Contains-parts}
+use Rattle.tm_replay.proofs.SliceLemmas.{Contains-parts}
 use Rattle.tm_order.specs.RecordedRuns.{AreRecorded}
 use Rattle.tm_order.specs.Records.{IsClocked, IsRecorded, last_stamp}
 use Rattle.tm_order.specs.Views.{RecordsAgree, AreMade, AreViews, KeepsClock}

@@ -7,5 +7,5 @@ pub mod Ready
 pub mod LegalEvents
 pub mod RecordedRuns
 pub mod Cuts
-pub mod Places
+pub mod PlacesApart
 pub mod Views

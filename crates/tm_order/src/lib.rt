@@ -5,7 +5,7 @@
 ghost use Rattle.tm_order.specs.Cuts.{ClosedCutsKeepPredecessors, CutsAreOfEvents};
 ghost use Rattle.tm_order.specs.LegalEvents.{BrokenOrdersAreIllegal, LegalEventsRun};
 ghost use Rattle.tm_order.specs.LinearExtensions.{JointRunsRearrange, PredecessorsAreEnough};
-ghost use Rattle.tm_order.specs.Places.{PlacesAreApart};
+ghost use Rattle.tm_order.specs.PlacesApart.{PlacesAreApart};
 ghost use Rattle.tm_order.specs.Ready.{AllEventsAreShown, SoonestFirstSorts};
 ghost use Rattle.tm_order.specs.RecordedRuns.{RecordsShowARun};
 ghost use Rattle.tm_order.specs.StampOrder.{StampsOrderEvents, StampsOrderJointRuns};

@@ -14,7 +14,7 @@ use Rattle.tm_programs.specs.declared.cursors.OpenBlock.TheVariants as open_bloc
 use Rattle.tm_programs.specs.declared.cursors.Cursor.{Cursor}
 use Rattle.tm_programs.specs.Programs.{Program, Over, Call, Set, Inc, Repeat, While, If, followed, holds, register_of, until_call, left, left_after, registers_after, next_ask, op_of, added}
 use Rattle.tm_programs.specs.Instructions.{IsNested, in_front, around, programs_of, first_of, rest_of, program_of}
-use Rattle.tm_programs.specs.Laws.{HasCall}
+use Rattle.tm_programs.specs.BlockLaws.{HasCall}
 use Rattle.tm_programs.specs.Running.{programs_at, program_at, after_block, after_blocks, program_left, BlockFits, BlocksFit, Stands, IsAsking, IsResting, Opens, bound, Steps, moved, with_registers, with_blocks, entered, repeated, chosen, left_block}
 use Rattle.tm_programs.proofs.Following.{repeats_unfold, while-true, while-false, if-true, if-false}
 use Rattle.tm_programs.specs.Spelled.{programs_of-whole, followed-over}

@@ -2,7 +2,7 @@
 use Rattle.std.proofs.Common.{◌≡◌, ℕ, zero, suc, ℤ, Bool, true, false, if◌then◌else◌, List, ap, refl, sym, ◌∙◌}
 use Rattle.tm_programs.specs.declared.instructions.Comparison.{Comparison}
 use Rattle.tm_programs.specs.Programs.{Program, Over, Call, Set, Inc, Repeat, While, If, Remainder, left, followed, joined, and_then, holds, register_of, until_call}
-use Rattle.tm_programs.specs.Laws.{HasCall, IsSettled, RepeatsUnfold, WhilesUnfold, IfsUnfold, RestsAreSettled}
+use Rattle.tm_programs.specs.BlockLaws.{HasCall, IsSettled, RepeatsUnfold, WhilesUnfold, IfsUnfold, RestsAreSettled}
 
 pub followed-assoc : (p q r : Program) → followed (followed p q) r ≡ followed p (followed q r)
 followed-assoc Over q r = refl

@@ -10,7 +10,7 @@ use Rattle.tm_programs.specs.declared.instructions.Instruction.{Instruction}
 use Rattle.tm_programs.specs.declared.instructions.Instruction.TheVariants as instruction
 use Rattle.tm_programs.specs.Programs.{Program, Over, Call, Set, Inc, Repeat, While, If}
 use Rattle.tm_programs.specs.Instructions.{flat, Block, Loop, Choice, with_call, opened, closed, blocks_after, blocks_of, IsNested, in_front, around, programs_of, first_of, program_of}
-use Rattle.tm_programs.specs.Laws.{HasCall}
+use Rattle.tm_programs.specs.BlockLaws.{HasCall}
 use Rattle.tm_programs.specs.Spelled.{append-nil}
 
 -- the program of an open block has the call that the block lacks so far

@@ -7,7 +7,7 @@ use Rattle.tm_programs.specs.declared.instructions.Instruction.TheVariants as in
 use Rattle.tm_programs.specs.declared.cursors.OpenBlock.{OpenBlock}
 use Rattle.tm_programs.specs.Programs.{Program, Over, Call, Set, Inc, Repeat, While, If, followed}
 use Rattle.tm_programs.specs.Instructions.{Block, Loop, Choice, with_call, opened, blocks_after, blocks_of, IsNested, around, programs_of, first_of, rest_of}
-use Rattle.tm_programs.specs.Laws.{HasCall}
+use Rattle.tm_programs.specs.BlockLaws.{HasCall}
 use Rattle.tm_programs.specs.Running.{programs_at, program_at, after_block, after_blocks, BlockFits, BlocksFit, bound, Opens, IsExit}
 use Rattle.tm_programs.proofs.Spelling.{Fit, Owes, goes, nested-fit, opened-some, closed-some}
 

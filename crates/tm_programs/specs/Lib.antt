@@ -1,7 +1,7 @@
 pub mod Programs
 pub mod Instructions
 pub mod Calls
-pub mod Laws
+pub mod BlockLaws
 pub mod Running
 pub mod Spelled
 pub mod Codes

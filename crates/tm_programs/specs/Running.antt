@@ -9,7 +9,7 @@ use Rattle.tm_programs.specs.declared.cursors.OpenBlock.TheVariants as open_bloc
 use Rattle.tm_programs.specs.declared.cursors.Cursor.{Cursor}
 use Rattle.tm_programs.specs.Programs.{Program, Over, Call, Set, Inc, Repeat, While, If, Rest, Remainder, left, followed, until_call, left_after, next_ask}
 use Rattle.tm_programs.specs.Instructions.{programs_of, first_of, rest_of}
-use Rattle.tm_programs.specs.Laws.{HasCall}
+use Rattle.tm_programs.specs.BlockLaws.{HasCall}
 
 -- The programs of the innermost open block and of those round it, from a place on.
 abbrev pub programs_at : List Instruction → ℕ → List Program

@@ -1,6 +1,6 @@
 ghost use Rattle.tm_programs.specs.Calls.{CallsStay};
 ghost use Rattle.tm_programs.specs.Instructions.{ProgramsAreSpelled};
-ghost use Rattle.tm_programs.specs.Laws.{IfsUnfold, RepeatsUnfold, RestsAreSettled, WhilesUnfold};
+ghost use Rattle.tm_programs.specs.BlockLaws.{IfsUnfold, RepeatsUnfold, RestsAreSettled, WhilesUnfold};
 
 /// A program is spelled by its instructions, and by no others that are nested.
 pub fn programs_are_spelled()

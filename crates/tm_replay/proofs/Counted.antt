@@ -6,7 +6,7 @@ use Rattle.tm_replay.specs.JointStates.{JointState, ThreadState, ObjectState}
 use Rattle.tm_base.specs.Fits.{is_call}
 use Rattle.tm_replay.specs.JointSteps.{JointStep, stepped, entered}
 use Rattle.tm_replay.specs.Work.{IsCounted}
-use Rattle.tm_replay.proofs.Lists.{slice_get-set_cases}
+use Rattle.tm_replay.proofs.SliceLemmas.{slice_get-set_cases}
 
 at_most_one : (b : Bool) → (if b then 1 else 0) ≤ 1
 at_most_one true = omega arith

@@ -14,10 +14,10 @@ use Rattle.tm_replay.specs.declared.phases.Phase.TheVariants as phase
 use Rattle.tm_replay.specs.JointStates.{JointState, ThreadState, ObjectState, start, first_object_state, first_thread_state, unbegun}
 use Rattle.tm_programs.specs.Programs.{Over}
 use Rattle.tm_replay.specs.JointSteps.{JointStep, IsJointRun, stepped, entered}
-use Rattle.tm_replay.proofs.Lists.{slice_get-set_cases, filter-snoc_in, filter-snoc_out, Contains-parts}
+use Rattle.tm_replay.proofs.SliceLemmas.{slice_get-set_cases, filter-snoc_in, filter-snoc_out, Contains-parts}
 use Rattle.tm_replay.proofs.JointStartLemmas.{mapped-at}
 use Rattle.tm_replay.proofs.ProjectionsLemmas.{runs-keep}
-use Rattle.tm_replay.proofs.ClosingLemmas.{none-behind}
+use Rattle.tm_replay.proofs.ClosedPrefixesLemmas.{none-behind}
 
 -- the first one is an element, and so is each of the others
 Contains-next : {A : Type 0} (y : A) (xs : List A) (x : A) → Contains xs x → Contains (y ∷ xs) x

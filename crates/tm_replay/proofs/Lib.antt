@@ -1,10 +1,10 @@
-pub mod Lists
+pub mod SliceLemmas
 pub mod Counted
 pub mod Moves
 pub mod Soundness
 pub mod Falling
 pub mod JointStartLemmas
 pub mod ProjectionsLemmas
-pub mod ClosingLemmas
+pub mod ClosedPrefixesLemmas
 pub mod JointOrderLemmas
 pub mod RunnableThreadsLemmas

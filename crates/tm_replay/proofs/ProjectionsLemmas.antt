@@ -14,7 +14,7 @@ use Rattle.tm_replay.specs.JointStates.{JointState, ThreadState, ObjectState, st
 use Rattle.tm_programs.specs.Programs.{Over}
 use Rattle.tm_replay.specs.JointSteps.{JointStep, IsJointRun, stepped, entered}
 use Rattle.tm_replay.specs.Projections.{label_at, history_state_at}
-use Rattle.tm_replay.proofs.Lists.{slice_get-set_cases, filter-snoc_in, filter-snoc_out, range-snoc}
+use Rattle.tm_replay.proofs.SliceLemmas.{slice_get-set_cases, filter-snoc_in, filter-snoc_out, range-snoc}
 use Rattle.tm_replay.proofs.JointStartLemmas.{mapped-at}
 
 -- what holds of some events and of a state, and what each further step keeps, holds after all of them

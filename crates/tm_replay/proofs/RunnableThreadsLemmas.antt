@@ -23,7 +23,7 @@ use Rattle.tm_replay.specs.JointSteps.{May}
 use Rattle.tm_replay.specs.Bars.{bar_of, bar_in, bar_for, is_runnable, waits_in}
 use Rattle.tm_replay.specs.RunnableThreads.{IsAnswerable}
 use Rattle.tm_replay.specs.SoundStates.{is_main, IsSoundJoint, IsObjectStateOf, IsAmong, is_begun, is_past, waits_at}
-use Rattle.tm_replay.proofs.Lists.{found_at}
+use Rattle.tm_replay.proofs.SliceLemmas.{found_at}
 use Rattle.tm_replay.proofs.Moves.{Does, begins, ends, calls, resumes, may-does, asked-called}
 
 -- a call in turn is answered

@@ -22,7 +22,7 @@ use Rattle.tm_replay.specs.declared.phases.Phase.TheVariants as phase
 use Rattle.tm_replay.specs.JointStates.{JointState, ThreadState, ObjectState}
 use Rattle.tm_replay.specs.JointSteps.{JointStep, MayIn, stepped, entered, phase_by, phase_after, rest_by}
 use Rattle.tm_replay.specs.SoundStates.{IsSoundJoint, IsObjectStateOf, IsThreadStateOf, IsAnswered, IsAmong, is_main, is_begun, is_past, waits_at}
-use Rattle.tm_replay.proofs.Lists.{slice_get-set_cases}
+use Rattle.tm_replay.proofs.SliceLemmas.{slice_get-set_cases}
 use Rattle.tm_replay.proofs.Moves.{Does, begins, ends, calls, resumes, may-does, Becomes, finished, waiting, freed, becomes, call-no_stop, call-no_life, asked-called}
 
 -- the phase of a program thread is that of its operation and reply

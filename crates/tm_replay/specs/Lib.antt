@@ -5,6 +5,6 @@ pub mod Ends
 pub mod SoundStates
 pub mod Work
 pub mod Projections
-pub mod Closing
+pub mod ClosedPrefixes
 pub mod JointOrder
 pub mod RunnableThreads

@@ -3,7 +3,7 @@
 
 mod phases;
 
-ghost use Rattle.tm_replay.specs.Closing.{PrefixesAreClosed};
+ghost use Rattle.tm_replay.specs.ClosedPrefixes.{PrefixesAreClosed};
 ghost use Rattle.tm_replay.specs.JointOrder.{RunsAreStamped, RunsAreWellPlaced};
 ghost use Rattle.tm_replay.specs.Projections.{ObjectsHaveHistories, ThreadsHavePlaces};
 ghost use Rattle.tm_replay.specs.RunnableThreads.{RunnableThreadsCanMove};

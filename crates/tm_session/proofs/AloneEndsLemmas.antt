@@ -22,11 +22,11 @@ use Rattle.tm_base.specs.Fits.{is_call}
 use Rattle.tm_replay.specs.JointSteps.{MayIn, MayAsk, JointStep, IsJointRun, phase_after, phase_by, rest_by, stepped}
 use Rattle.tm_replay.specs.Bars.{bars_of, is_stuck, waited_objects}
 use Rattle.tm_replay.specs.Ends.{IsEndedRun, WasStuck, is_cut_phase, is_cut_by_limit, is_more}
-use Rattle.tm_replay.proofs.Lists.{slice_get-set_cases}
+use Rattle.tm_replay.proofs.SliceLemmas.{slice_get-set_cases}
 use Rattle.tm_replay.proofs.JointStartLemmas.{IsSoundJoint-start, mapped-at}
 use Rattle.tm_replay.proofs.ProjectionsLemmas.{runs-keep}
 use Rattle.tm_session.specs.declared.rules.Rules.{Rules}
-use Rattle.tm_session.specs.Running.{AreWaited}
+use Rattle.tm_session.specs.RunningStates.{AreWaited}
 use Rattle.tm_session.specs.Turns.{RunState, first_run_state, BeginsAlone, IsAloneRun, KeepsLimit, Moves, Goes, GoesBy, due_by, due_stops}
 use Rattle.tm_session.proofs.ChoicesLemmas.{chosen-runs, runs-known}
 use Rattle.tm_session.proofs.DeterminismLemmas.{keeps-call, keeps-cut}

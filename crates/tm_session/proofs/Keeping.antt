@@ -3,7 +3,7 @@ use Rattle.std.proofs.Common.{◌≡◌, ◌≢◌, ℕ, zero, suc, ◌==◌, �
 use Rattle.tm_base.specs.declared.events.Entry.{Entry}
 use Rattle.tm_base.specs.Orders.{of_object}
 use Rattle.tm_book.specs.Books.{BookView}
-use Rattle.tm_replay.proofs.Lists.{slice_get-set_cases, filter-snoc_in, filter-snoc_out}
+use Rattle.tm_replay.proofs.SliceLemmas.{slice_get-set_cases, filter-snoc_in, filter-snoc_out}
 use Rattle.tm_session.specs.Seats.{SeatView}
 use Rattle.tm_session.specs.Scenes.{HaveKept, AreFresh, AreNumbered}
 

@@ -14,7 +14,7 @@ use Rattle.tm_replay.specs.JointSteps.{JointStep, May, MayIn}
 use Rattle.tm_replay.specs.Bars.{bar_of, bar_in, bars_of, is_runnable, is_some_queued, has_waiter}
 use Rattle.tm_replay.specs.SoundStates.{IsSoundJoint, is_main}
 use Rattle.tm_replay.specs.RunnableThreads.{IsAnswerable}
-use Rattle.tm_replay.proofs.Lists.{found_at}
+use Rattle.tm_replay.proofs.SliceLemmas.{found_at}
 use Rattle.tm_replay.proofs.RunnableThreadsLemmas.{runnable-answered}
 use Rattle.tm_replay.proofs.Soundness.{is_main-phase}
 use Rattle.tm_replay.proofs.Moves.{Does, may-does, asked-called}

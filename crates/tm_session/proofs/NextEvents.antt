@@ -15,11 +15,11 @@ use Rattle.tm_replay.specs.JointStates.{JointState, ThreadState, ObjectState}
 use Rattle.tm_base.specs.Fits.{is_call}
 use Rattle.tm_replay.specs.JointSteps.{MayIn, MayAsk, JointStep, entered, stepped}
 use Rattle.tm_replay.specs.Bars.{bars_of, is_over}
-use Rattle.tm_replay.proofs.Lists.{found_at}
+use Rattle.tm_replay.proofs.SliceLemmas.{found_at}
 use Rattle.tm_session.specs.declared.next_calls.NextCall.{NextCall}
 use Rattle.tm_session.specs.declared.rules.Rules.{Rules}
 use Rattle.tm_session.specs.Choices.{chosen_thread, draw_after}
-use Rattle.tm_session.specs.Running.{AreWaited}
+use Rattle.tm_session.specs.RunningStates.{AreWaited}
 use Rattle.tm_session.specs.Seats.{AsksCalls, GoesOn}
 use Rattle.tm_session.specs.Turns.{RunState, GoesBy, KeepsLimit, due_stops}
 use Rattle.tm_session.proofs.ChoicesLemmas.{bars-count, some-chosen}

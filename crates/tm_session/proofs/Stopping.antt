@@ -12,7 +12,7 @@ use Rattle.tm_replay.specs.declared.phases.Phase.TheVariants as phase
 use Rattle.tm_replay.specs.JointStates.{JointState, ThreadState, ObjectState}
 use Rattle.tm_replay.specs.Bars.{bar_of, bar_for, bar_in, bars_of, is_runnable, is_ended, is_over, is_stuck, waits_in, is_some_queued, has_waiter, waited_objects}
 use Rattle.tm_replay.specs.SoundStates.{IsSoundJoint, IsAmong}
-use Rattle.tm_session.specs.Running.{AreWaited}
+use Rattle.tm_session.specs.RunningStates.{AreWaited}
 use Rattle.tm_session.specs.Turns.{due_by}
 use Rattle.tm_session.proofs.ChoicesLemmas.{bar-at, bars-count}
 

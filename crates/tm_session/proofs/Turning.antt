@@ -21,7 +21,7 @@ use Rattle.tm_session.specs.declared.rules.Rules.{Rules}
 use Rattle.tm_session.specs.Choices.{draw_after}
 use Rattle.tm_session.specs.Scenes.{joint_of}
 use Rattle.tm_session.specs.Turns.{RunState, first_run_state, BeginsAlone, Goes, GoesBy, Halts, KeepsLimit, Moves, due_stops}
-use Rattle.tm_session.specs.Running.{run_state_of, MovesOn, Stops, AreWaited}
+use Rattle.tm_session.specs.RunningStates.{run_state_of, MovesOn, Stops, AreWaited}
 use Rattle.tm_session.proofs.Stopping.{due-waited, waited-after}
 
 -- a thread that went on, from a run that differs from the old one in its due objects alone

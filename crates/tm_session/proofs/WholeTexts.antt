@@ -16,7 +16,7 @@ use Rattle.tm_replay.specs.Ends.{end_of, named_of}
 use Rattle.tm_session.specs.declared.rules.Rules.{Rules}
 use Rattle.tm_session.specs.declared.sessions.Session.{Session}
 use Rattle.tm_session.specs.Determinism.{HasAloneText}
-use Rattle.tm_session.specs.Running.{run_state_of}
+use Rattle.tm_session.specs.RunningStates.{run_state_of}
 use Rattle.tm_session.specs.Sending.{IsSent}
 use Rattle.tm_session.specs.Sessions.{IsUnderWay, HasSent}
 use Rattle.tm_session.specs.Transcripts.{Transcript, first_transcript, AddsRow, AreRows, BeginsAloneText}

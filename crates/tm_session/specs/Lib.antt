@@ -7,7 +7,7 @@ pub mod Acting
 pub mod Transcripts
 pub mod Sending
 pub mod Scenes
-pub mod Running
+pub mod RunningStates
 pub mod Sessions
 pub mod Shelves
 pub mod CutThreads

@@ -9,7 +9,7 @@ use Rattle.tm_session.specs.declared.rules.Rules.{Rules}
 use Rattle.tm_session.specs.Scenes.{joint_of, HasKept}
 use Rattle.tm_session.specs.Turns.{BeginsAlone}
 use Rattle.tm_session.specs.Transcripts.{Transcript, AreRows}
-use Rattle.tm_session.specs.Running.{run_state_of, AreWaited}
+use Rattle.tm_session.specs.RunningStates.{run_state_of, AreWaited}
 use Rattle.tm_session.specs.Sending.{IsSent}
 
 -- The session is under way: its joint state is sound, its places and stamps are at most the number of

@@ -1,7 +1,7 @@
 ghost use Rattle.std.specs.Prelude.{◌≡◌, ◌≤◌, IfOk, OnErr, List, ℕ};
 ghost use Rattle.tm_outside.specs.Appending.{AppendsPrefix};
 ghost use Rattle.tm_replay.specs.JointStates.{JointState};
-ghost use Rattle.tm_replay.specs.Closing.{HasClosedPrefixes};
+ghost use Rattle.tm_replay.specs.ClosedPrefixes.{HasClosedPrefixes};
 ghost use Rattle.tm_replay.specs.Ends.{EndsAs};
 ghost use Rattle.tm_replay.specs.JointOrder.{AreOrdered};
 ghost use Rattle.tm_replay.specs.JointSteps.{IsJointRun};

@@ -3,7 +3,7 @@ ghost use Rattle.std.specs.List.{list_all};
 ghost use Rattle.tm_text.specs.Exercises.{IsWellFormed};
 ghost use Rattle.tm_replay.specs.Bars.{bars_of, is_over, is_runnable, is_stuck};
 ghost use Rattle.tm_session.specs.Scenes.{joint_of, HasKept};
-ghost use Rattle.tm_session.specs.Running.{run_state_of, IsRunning, HaltsAt, MovesOn, Stops};
+ghost use Rattle.tm_session.specs.RunningStates.{run_state_of, IsRunning, HaltsAt, MovesOn, Stops};
 ghost use Rattle.tm_session.specs.Turns.{Goes, due_stops, first_run_state};
 
 use crate::choices::{choose, draw_after, is_runnable};

@@ -14,7 +14,7 @@ use Rattle.tm_lines.specs.Lines.{is_ignored, words_of}
 use Rattle.tm_lines.specs.NamedLines.{word_at}
 use Rattle.tm_lines.specs.TextFaults.{said_words, text_lines}
 use Rattle.tm_text.specs.declared.exercises.Declaration.{Declaration}
-use Rattle.tm_text.specs.Programs.{Spelled, after_end, after_line, put_begun, with_said, words_after}
+use Rattle.tm_text.specs.SpelledPrograms.{Spelled, after_end, after_line, put_begun, with_said, words_after}
 use Rattle.tm_text.specs.Readings.{GoesOn}
 use Rattle.tm_text.specs.Texts.{instruction_said, programs_by, programs_said, put_instruction}
 

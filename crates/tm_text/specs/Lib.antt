@@ -4,7 +4,7 @@ pub mod StoredExercises
 pub mod Texts
 pub mod Objects
 pub mod StoredObjects
-pub mod Programs
+pub mod SpelledPrograms
 pub mod StoredPrograms
 pub mod Readings
 pub mod SpelledLines

@@ -7,7 +7,7 @@ use Rattle.tm_lines.specs.TextFaults.{said_words, text_lines}
 use Rattle.tm_text.specs.declared.exercises.Declaration.{Declaration}
 use Rattle.tm_text.specs.declared.text_faults.TextFault.{TextFault}
 use Rattle.tm_text.specs.declared.text_faults.TextFault.TheVariants as refusal
-use Rattle.tm_text.specs.Programs.{Spelled, with_said}
+use Rattle.tm_text.specs.SpelledPrograms.{Spelled, with_said}
 use Rattle.tm_text.specs.Texts.{programs_said}
 
 -- The text is refused rightly: a line is answered only where it is the first faulty one. Memory can run out at

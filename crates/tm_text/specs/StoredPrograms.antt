@@ -1,7 +1,7 @@
 -- How the programs of a text are stored while it is read.
 use Rattle.std.specs.Prelude.{◌≤◌, map, length}
 use Rattle.tm_text.specs.declared.programs.Programs.TheInside.{Inside}
-use Rattle.tm_text.specs.Programs.{Spelled}
+use Rattle.tm_text.specs.SpelledPrograms.{Spelled}
 
 abbrev pub spelled_view : Inside → Spelled
 spelled_view a = record { ended = map (λ p. p.items) a.ended.items; begun = a.begun.items; depth = a.depth }

@@ -2,7 +2,7 @@ ghost use Rattle.std.specs.Prelude.{◌≡◌, pos};
 ghost use Rattle.tm_lines.specs.declared.first_words.Slot.TheVariants.{Value};
 ghost use Rattle.tm_lines.specs.FirstWords.{operand_slots};
 ghost use Rattle.tm_lines.specs.NamedLines.{natural_or};
-ghost use Rattle.tm_text.specs.Programs.{words_after};
+ghost use Rattle.tm_text.specs.SpelledPrograms.{words_after};
 ghost use Rattle.tm_text.specs.Texts.{comparison_said, instruction_said, number_said, operand_by, operand_said, register_said};
 
 use crate::objects::Objects;

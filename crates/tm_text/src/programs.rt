@@ -1,5 +1,5 @@
 ghost use Rattle.std.specs.Prelude.{◌≡◌, suc, OnOk, map};
-ghost use Rattle.tm_text.specs.Programs.{after_declaration, after_end, after_line, nothing_spelled, with_instruction};
+ghost use Rattle.tm_text.specs.SpelledPrograms.{after_declaration, after_end, after_line, nothing_spelled, with_instruction};
 
 use std::alloc::Global;
 use std::marker::Model;
@@ -18,7 +18,7 @@ pub struct Programs {
 }
 
 impl Model for Programs {
-    ghost use Rattle.tm_text.specs.Programs.{Spelled};
+    ghost use Rattle.tm_text.specs.SpelledPrograms.{Spelled};
 
     ghost Value = { Spelled };
 

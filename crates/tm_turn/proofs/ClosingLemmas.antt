@@ -9,9 +9,9 @@ use Rattle.tm_base.specs.declared.events.Entry.{Entry}
 use Rattle.tm_base.specs.Histories.{Label}
 use Rattle.tm_base.specs.Orders.{of_thread}
 use Rattle.tm_turn.specs.declared.views.LocalView.{LocalView}
-use Rattle.tm_turn.specs.Lists.{AreOf, has}
+use Rattle.tm_turn.specs.Prefixes.{AreOf, has}
 use Rattle.tm_turn.specs.Rule.{IsHome, IsHeld, FollowsRule}
-use Rattle.tm_turn.proofs.ListsLemmas.{clash, none_before, all_of_it}
+use Rattle.tm_turn.proofs.PrefixesLemmas.{clash, none_before, all_of_it}
 
 true_or_false : (b : Bool) → (b ≡ true) ⊎ (b ≡ false)
 true_or_false true = inl refl

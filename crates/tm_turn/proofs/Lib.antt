@@ -1,5 +1,5 @@
-pub mod ListsLemmas
+pub mod PrefixesLemmas
 pub mod RuleLemmas
-pub mod StepsLemmas
-pub mod JoinsLemmas
+pub mod TurnStepsLemmas
+pub mod JoinedPassesLemmas
 pub mod ClosingLemmas

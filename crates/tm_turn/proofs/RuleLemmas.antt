@@ -11,9 +11,9 @@ use Rattle.tm_base.specs.declared.events.Entry.{Entry}
 use Rattle.tm_base.specs.Histories.{Label}
 use Rattle.tm_base.specs.Orders.{of_thread}
 use Rattle.tm_turn.specs.declared.views.LocalView.{LocalView}
-use Rattle.tm_turn.specs.Lists.{StartsWith, has}
+use Rattle.tm_turn.specs.Prefixes.{StartsWith, has}
 use Rattle.tm_turn.specs.Rule.{IsConsistent, IsHolder, IsHeld, FollowsRule}
-use Rattle.tm_turn.proofs.ListsLemmas.{clash, StartsWith-trans}
+use Rattle.tm_turn.proofs.PrefixesLemmas.{clash, StartsWith-trans}
 
 -- A view that has changed in a step of its own: the number, the label and the lists of numbers stay.
 abbrev pub stepping : LocalView → List Entry → Bool → ℕ → ℕ → ℕ → Bool → List Entry → List Entry → Option ℕ → LocalView

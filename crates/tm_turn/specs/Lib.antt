@@ -1,6 +1,6 @@
-pub mod Lists
+pub mod Prefixes
 pub mod LocalViews
 pub mod Passes
 pub mod Rule
-pub mod Steps
+pub mod TurnSteps
 pub mod StoredPasses

@@ -4,7 +4,7 @@ use Rattle.tm_base.specs.declared.events.Entry.{Entry}
 use Rattle.tm_base.specs.declared.kinds.Kind.TheVariants as kind
 use Rattle.tm_base.specs.Histories.{Label}
 use Rattle.tm_turn.specs.declared.views.LocalView.{LocalView}
-use Rattle.tm_turn.specs.Lists.{longer}
+use Rattle.tm_turn.specs.Prefixes.{longer}
 
 -- A pass that has seen these events, has given and absorbed no number, and has tried nothing yet.
 abbrev pub newcomer : Label → ℕ → List Entry → LocalView

@@ -8,7 +8,7 @@ use Rattle.tm_base.specs.declared.events.Entry.{Entry}
 use Rattle.tm_base.specs.Histories.{Label}
 use Rattle.tm_base.specs.Orders.{of_thread}
 use Rattle.tm_turn.specs.declared.views.LocalView.{LocalView}
-use Rattle.tm_turn.specs.Lists.{StartsWith, has}
+use Rattle.tm_turn.specs.Prefixes.{StartsWith, has}
 
 -- Pass 0 knows which numbers were given and absorbed, and has seen all events of those absorbed.
 pub record IsRoot (history : List Entry) (given absorbed : List ℕ) (v : LocalView) : Type 0 where

@@ -1,6 +1,6 @@
 -- What a stored pass keeps.
 use Rattle.std.specs.Prelude.{◌≡◌, ℕ, true, false, [], ◌∷◌, None}
-use Rattle.tm_turn.specs.Steps.{SeatState}
+use Rattle.tm_turn.specs.TurnSteps.{SeatState}
 
 -- The number is the one that the seat knows. The seat is a pass's, and keeps no lists of a join. It has taken
 -- the slot exactly while it holds the turn, and the slot is empty then, since the value was moved out.

@@ -1,6 +1,6 @@
 // The rule of a turn's table, and what each of its steps tells. These types are for the proofs alone.
 ghost use Rattle.tm_turn.specs.LocalViews.{newcomer, splitting, note_of, absorbing, meeting, spent};
-ghost use Rattle.tm_turn.specs.Steps.{Tries, Notes, Gives, Looks, Learns};
+ghost use Rattle.tm_turn.specs.TurnSteps.{Tries, Notes, Gives, Looks, Learns};
 
 use crate::views::LocalView;
 use atomic_table::{Join, Play, Split, TableRule};
@@ -36,7 +36,7 @@ pub trait Noted {
 }
 
 impl Noted for Brand {
-    ghost use Rattle.tm_turn.specs.Steps.{no_entry};
+    ghost use Rattle.tm_turn.specs.TurnSteps.{no_entry};
 
     ghost entry = { no_entry };
 }

@@ -1,6 +1,6 @@
 ghost use Rattle.std.specs.Prelude.{◌≡◌, ◌≢◌, ◌<◌, ◌^◌, [], false};
 ghost use Rattle.tm_turn.specs.Passes.{IsPassOf};
-ghost use Rattle.tm_turn.specs.Lists.{has};
+ghost use Rattle.tm_turn.specs.Prefixes.{has};
 
 use super::*;
 use std::alloc::Global;

@@ -1,5 +1,5 @@
 ghost use Rattle.std.specs.Prelude.{◌≡◌, ◌≢◌, suc, ◌++◌, ◌∷◌, ◌^◌, ◌<◌, ◌≤◌, [], false, true, length, IfOk, IfErr, OnOk};
-ghost use Rattle.tm_turn.specs.Lists.{StartsWith};
+ghost use Rattle.tm_turn.specs.Prefixes.{StartsWith};
 ghost use Rattle.tm_turn.specs.Passes.{IsHeldBy, IsPassOf, mine};
 
 use crate::held::{Busy, Held};

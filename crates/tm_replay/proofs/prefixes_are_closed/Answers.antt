@@ -1,5 +1,5 @@
 -- The law, event by event.
-use Rattle.tm_replay.proofs.ClosingLemmas.{prefixes-are_closed}
+use Rattle.tm_replay.proofs.ClosedPrefixesLemmas.{prefixes-are_closed}
 use Rattle.tm_replay.proofs.prefixes_are_closed.Goals as goal
 
 pub returns : goal.returns

@@ -4,13 +4,13 @@ use Rattle.tm_base.specs.declared.events.Entry.{Entry}
 use Rattle.tm_outside.specs.Appending.{AppendsPrefix}
 use Rattle.tm_outside.proofs.AppendingLemmas.{AppendsPrefix-none}
 use Rattle.tm_replay.specs.JointStates.{JointState}
-use Rattle.tm_replay.specs.Closing.{HasClosedPrefixes}
+use Rattle.tm_replay.specs.ClosedPrefixes.{HasClosedPrefixes}
 use Rattle.tm_replay.specs.JointSteps.{IsJointRun}
 use Rattle.tm_replay.specs.JointOrder.{AreOrdered}
 use Rattle.tm_replay.specs.Bars.{bars_of, is_over}
 use Rattle.tm_replay.specs.Ends.{IsEndedRun, EndsAs, end_of, named_of}
 use Rattle.tm_replay.proofs.JointOrderLemmas.{runs-placed, runs-stamped}
-use Rattle.tm_replay.proofs.ClosingLemmas.{prefixes-are_closed}
+use Rattle.tm_replay.proofs.ClosedPrefixesLemmas.{prefixes-are_closed}
 use Rattle.tm_book.specs.Books.{BookView}
 use Rattle.tm_text.specs.Exercises.{ExerciseView}
 use Rattle.tm_session.specs.declared.rules.Rules.{Rules}
@@ -21,7 +21,7 @@ use Rattle.tm_session.specs.Sessions.{IsUnderWay, HasSent}
 use Rattle.tm_session.specs.Shelves.{AreBooksOf}
 use Rattle.tm_session.specs.Scenes.{joint_of}
 use Rattle.tm_session.specs.Turns.{rules_of}
-use Rattle.tm_session.specs.Running.{run_state_of}
+use Rattle.tm_session.specs.RunningStates.{run_state_of}
 use Rattle.tm_session.proofs.Turning.{alone-legal}
 use Rattle.tm_session.proofs.AloneEndsLemmas.{alone-ends}
 use Rattle.tm_session.proofs.Shelving.{books-left}

@@ -1,7 +1,7 @@
 use Rattle.std.proofs.Common.{◌≡◌, length}
 use Rattle.tm_lines.specs.Checks.{before, fault_left}
 use Rattle.tm_lines.specs.TextFaults.{said_words, text_lines}
-use Rattle.tm_text.specs.Programs.{with_said}
+use Rattle.tm_text.specs.SpelledPrograms.{with_said}
 use Rattle.tm_text.specs.Texts.{programs_said}
 use Rattle.tm_text.proofs.reader.programs.Given as goal
 

@@ -8,7 +8,7 @@ use Rattle.tm_base.specs.declared.events.Entry.{Entry}
 use Rattle.tm_outside.proofs.AppendingLemmas.{Appends-none}
 use Rattle.tm_session.specs.Scenes.{joint_of}
 use Rattle.tm_session.specs.Turns.{RunState, first_run_state, BeginsAlone}
-use Rattle.tm_session.specs.Running.{run_state_of, AreWaited}
+use Rattle.tm_session.specs.RunningStates.{run_state_of, AreWaited}
 use Rattle.tm_session.specs.Transcripts.{first_transcript, AreRows}
 use Rattle.tm_session.proofs.sessions.Session.make.Goals as goal
 

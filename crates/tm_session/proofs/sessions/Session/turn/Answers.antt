@@ -14,7 +14,7 @@ use Rattle.tm_session.specs.declared.rules.Rules.{Rules}
 use Rattle.tm_session.specs.Scenes.{joint_of}
 use Rattle.tm_session.specs.Sessions.{IsUnderWay}
 use Rattle.tm_session.specs.Turns.{RunState, Goes, BeginsAlone, first_run_state}
-use Rattle.tm_session.specs.Running.{run_state_of}
+use Rattle.tm_session.specs.RunningStates.{run_state_of}
 use Rattle.tm_session.specs.Transcripts.{AreRows}
 use Rattle.tm_session.proofs.Turning.{IsSoundTurn, turned, turn-counts}
 use Rattle.tm_session.proofs.Rowing.{bars-programs, step-object, step-thread, step-names, AreRows-snoc}

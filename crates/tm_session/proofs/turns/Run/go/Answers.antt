@@ -6,7 +6,7 @@ use Rattle.tm_replay.specs.SoundStates.{IsSoundJoint}
 use Rattle.tm_replay.specs.Bars.{is_stuck, has_waiter}
 use Rattle.tm_session.specs.Scenes.{joint_of, IsEarly}
 use Rattle.tm_session.specs.Turns.{Goes, GoesBy}
-use Rattle.tm_session.specs.Running.{run_state_of, AreWaited, MovesOn, Stops}
+use Rattle.tm_session.specs.RunningStates.{run_state_of, AreWaited, MovesOn, Stops}
 use Rattle.tm_session.proofs.Stopping.{due-waited, none-due}
 use Rattle.tm_session.proofs.Turning.{moves, halts}
 use Rattle.tm_session.proofs.turns.Run.go.Goals as goal

@@ -1,6 +1,6 @@
 -- Each step keeps the rule.
 use Rattle.std.proofs.Common.{ap, sym, ◌∙◌, arith}
-use Rattle.tm_turn.proofs.JoinsLemmas.{absorbs, learns}
+use Rattle.tm_turn.proofs.JoinedPassesLemmas.{absorbs, learns}
 use Rattle.tm_turn.proofs.turns.Turn.absorb.Goals as goal
 
 pub join_seat-requires : goal.join_seat-requires

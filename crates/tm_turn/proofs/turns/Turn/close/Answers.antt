@@ -1,6 +1,6 @@
 -- The value is at home, and its list is what pass 0 has seen.
 use Rattle.std.proofs.Common.{◌≡◌, ℕ, true, ap, sym, ◌∙◌, subst, IsSome, refl}
-use Rattle.tm_turn.specs.Lists.{AreOf, has}
+use Rattle.tm_turn.specs.Prefixes.{AreOf, has}
 use Rattle.tm_turn.proofs.ClosingLemmas.{closes}
 use Rattle.tm_turn.proofs.turns.Turn.close.Goals as goal
 

@@ -1,6 +1,6 @@
 -- The step keeps the rule.
 use Rattle.std.proofs.Common.{ap, sym, ◌∙◌, arith, subst, suc, ◌<◌, ◌^◌, length}
-use Rattle.tm_turn.proofs.StepsLemmas.{notes}
+use Rattle.tm_turn.proofs.TurnStepsLemmas.{notes}
 use Rattle.tm_turn.proofs.turns.Turn.count.Goals as goal
 
 pub fetch_add-requires : goal.fetch_add-requires

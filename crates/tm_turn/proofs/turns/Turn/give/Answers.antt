@@ -1,7 +1,7 @@
 -- The step keeps the rule.
 use Rattle.std.proofs.Common.{ap, sym, ◌∙◌, arith, ◌∷◌, Some}
 use Rattle.atomic_table.specs.Table.{rest}
-use Rattle.tm_turn.proofs.StepsLemmas.{gives_back}
+use Rattle.tm_turn.proofs.TurnStepsLemmas.{gives_back}
 use Rattle.tm_turn.proofs.turns.Turn.give.Goals as goal
 
 pub store-requires : goal.store-requires

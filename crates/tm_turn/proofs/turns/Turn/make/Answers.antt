@@ -3,7 +3,7 @@ use Rattle.std.proofs.Common.{ap, sym, ◌∙◌, subst, ◌++◌, ◌∷◌, []
 use Rattle.atomic_table.specs.Table.{opening}
 use Rattle.tm_turn.specs.Rule.{FollowsRule}
 use Rattle.tm_turn.specs.LocalViews.{newcomer}
-use Rattle.tm_turn.proofs.StepsLemmas.{opens}
+use Rattle.tm_turn.proofs.TurnStepsLemmas.{opens}
 use Rattle.tm_turn.proofs.turns.Turn.make.Goals as goal
 
 pub new-requires : goal.new-requires

@@ -1,6 +1,6 @@
 -- Each step keeps the rule.
 use Rattle.std.proofs.Common.{ap, sym, ◌∙◌, arith}
-use Rattle.tm_turn.proofs.JoinsLemmas.{tells, meets, learns}
+use Rattle.tm_turn.proofs.JoinedPassesLemmas.{tells, meets, learns}
 use Rattle.tm_turn.proofs.turns.Turn.meet.Goals as goal
 
 pub split_seat-note-requires : goal.split_seat-note-requires

@@ -1,7 +1,7 @@
 -- Each step keeps the rule.
 use Rattle.std.proofs.Common.{◌<◌, ◌^◌, ap, sym, ◌∙◌, arith}
-use Rattle.tm_turn.specs.Lists.{has}
-use Rattle.tm_turn.proofs.JoinsLemmas.{looks, splits}
+use Rattle.tm_turn.specs.Prefixes.{has}
+use Rattle.tm_turn.proofs.JoinedPassesLemmas.{looks, splits}
 use Rattle.tm_turn.proofs.turns.Turn.split_off.Goals as goal
 
 pub load-requires : goal.load-requires

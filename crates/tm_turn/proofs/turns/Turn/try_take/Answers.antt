@@ -1,7 +1,7 @@
 -- The step keeps the rule, and who won has the value.
 use Rattle.std.proofs.Common.{ap, sym, ◌∙◌, arith, add-one, suc, ◌+◌, ◌∷◌, Some}
 use Rattle.atomic_table.specs.Table.{rest}
-use Rattle.tm_turn.proofs.StepsLemmas.{tries}
+use Rattle.tm_turn.proofs.TurnStepsLemmas.{tries}
 use Rattle.tm_turn.proofs.turns.Turn.try_take.Goals as goal
 
 pub compare_exchange-found-requires : goal.compare_exchange-found-requires

@@ -11,13 +11,13 @@ use Rattle.tm_base.specs.declared.events.Entry.{Entry}
 use Rattle.tm_base.specs.Histories.{Label}
 use Rattle.tm_base.specs.Orders.{of_thread}
 use Rattle.tm_turn.specs.declared.views.LocalView.{LocalView}
-use Rattle.tm_turn.specs.Lists.{has, longer}
+use Rattle.tm_turn.specs.Prefixes.{has, longer}
 use Rattle.tm_turn.specs.Rule.{IsConsistent, IsHeld, FollowsRule}
 use Rattle.tm_turn.specs.LocalViews.{newcomer, splitting, note_of, absorbing, meeting, learning, spent}
-use Rattle.tm_turn.specs.Steps.{Looks, Learns}
-use Rattle.tm_turn.proofs.ListsLemmas.{clash, StartsWith-self, at_end, has-here, has-else, has-cases, has-more, has-none, squeezed, none_before, longer_begins}
+use Rattle.tm_turn.specs.TurnSteps.{Looks, Learns}
+use Rattle.tm_turn.proofs.PrefixesLemmas.{clash, StartsWith-self, at_end, has-here, has-else, has-cases, has-more, has-none, squeezed, none_before, longer_begins}
 use Rattle.tm_turn.proofs.RuleLemmas.{stood, still_held, moved}
-use Rattle.tm_turn.proofs.StepsLemmas.{set_first, second_kept}
+use Rattle.tm_turn.proofs.TurnStepsLemmas.{set_first, second_kept}
 
 is_false : (b : Bool) → (b ≡ true → ⊥) → b ≡ false
 is_false true h = absurd (h refl)

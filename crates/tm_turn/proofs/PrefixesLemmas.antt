@@ -9,7 +9,7 @@ use Rattle.std.proofs.lemmas.List.{append-nil, append_assoc}
 use Rattle.std.proofs.lemmas.List.Elements.{filter-append}
 use Rattle.tm_base.specs.declared.events.Entry.{Entry}
 use Rattle.tm_base.specs.Orders.{of_thread}
-use Rattle.tm_turn.specs.Lists.{StartsWith, has, longer}
+use Rattle.tm_turn.specs.Prefixes.{StartsWith, has, longer}
 
 pub clash : (b : Bool) → b ≡ true → b ≡ false → ⊥
 clash b is isnt = false≢true (sym isnt ∙ is)

@@ -10,11 +10,11 @@ use Rattle.tm_base.specs.declared.events.Entry.{Entry}
 use Rattle.tm_base.specs.Histories.{Label}
 use Rattle.tm_base.specs.Orders.{of_thread}
 use Rattle.tm_turn.specs.declared.views.LocalView.{LocalView}
-use Rattle.tm_turn.specs.Lists.{StartsWith}
+use Rattle.tm_turn.specs.Prefixes.{StartsWith}
 use Rattle.tm_turn.specs.Rule.{IsConsistent, IsHolder, IsHome, IsHeld, FollowsRule}
 use Rattle.tm_turn.specs.LocalViews.{newcomer, taking, missing, noting, giving}
-use Rattle.tm_turn.specs.Steps.{Tries, Notes, Gives}
-use Rattle.tm_turn.proofs.ListsLemmas.{clash, StartsWith-self, StartsWith-snoc, of_thread-other}
+use Rattle.tm_turn.specs.TurnSteps.{Tries, Notes, Gives}
+use Rattle.tm_turn.proofs.PrefixesLemmas.{clash, StartsWith-self, StartsWith-snoc, of_thread-other}
 use Rattle.tm_turn.proofs.RuleLemmas.{its_turn, still_held, moved}
 
 -- the two words of a table, after a write into one of them

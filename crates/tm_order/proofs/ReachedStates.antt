@@ -13,7 +13,7 @@ use Rattle.tm_text.specs.declared.exercises.Declaration.{Declaration}
 use Rattle.tm_text.specs.Exercises.{ExerciseView}
 use Rattle.tm_replay.specs.JointStates.{JointState, ThreadState, ObjectState, start, first_object_state, unbegun}
 use Rattle.tm_replay.specs.JointSteps.{JointStep, May, stepped, entered}
-use Rattle.tm_replay.proofs.Lists.{filter-snoc_in, filter-snoc_out, found_at, slice_get-set_same}
+use Rattle.tm_replay.proofs.SliceLemmas.{filter-snoc_in, filter-snoc_out, found_at, slice_get-set_same}
 use Rattle.tm_order.specs.Records.{IsReached, label_of, last_stamp, object_state_at}
 use Rattle.tm_order.specs.ThreadRuns.{IsThreadRun, ThreadStep, thread_at_start}
 use Rattle.tm_order.proofs.Elements.{same-found, same-places, slice_get-set_other}

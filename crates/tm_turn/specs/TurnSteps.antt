@@ -7,7 +7,7 @@ use Rattle.tm_base.specs.declared.replies.Reply.TheVariants as reply
 use Rattle.tm_base.specs.Histories.{Label}
 use Rattle.tm_base.specs.Orders.{of_thread}
 use Rattle.tm_turn.specs.declared.views.LocalView.{LocalView}
-use Rattle.tm_turn.specs.Lists.{StartsWith, has}
+use Rattle.tm_turn.specs.Prefixes.{StartsWith, has}
 use Rattle.tm_turn.specs.LocalViews.{taking, missing, noting, giving, learning}
 use Rattle.tm_turn.specs.Rule.{IsJoined}
 

@@ -11,7 +11,7 @@ use Rattle.tm_laws.proofs.RunsLemmas.{Leads-split}
 use Rattle.tm_text.specs.Exercises.{ExerciseView}
 use Rattle.tm_replay.specs.JointStates.{JointState, ThreadState, ObjectState, start}
 use Rattle.tm_replay.specs.JointSteps.{JointStep, IsJointRun, stepped, entered}
-use Rattle.tm_replay.proofs.Lists.{slice_get-set_kept, slice_get-set_same, Contains-first, Contains-parts, Contains-at}
+use Rattle.tm_replay.proofs.SliceLemmas.{slice_get-set_kept, slice_get-set_same, Contains-first, Contains-parts, Contains-at}
 
 -- a bound that each step keeps, and that its own items are above, is below all own items of a run
 module _ {S E : Type 0} (step : S → E → S → Type 0) (IsBelow : S → Type 0) (IsOwn : E → Type 0) (IsMore : E → Type 0)
