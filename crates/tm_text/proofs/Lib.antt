@@ -21,3 +21,11 @@ mod SaidValueLemmas
 mod SaidForwards
 mod SpelledBack
 mod SpelledTexts
+mod JoinedWords
+mod WrittenValues
+mod FittingValues
+mod SoundLines
+mod SoundValues
+mod NamedBack
+mod SoundPrograms
+mod SoundExercises

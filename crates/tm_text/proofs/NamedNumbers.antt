@@ -66,7 +66,7 @@ number_of-name ds once o d at =
     let zeroth : 0 + o ≡ o = omega arith in
     ap (λ r. number_named ds (name_at r)) at ∙ ap (λ n. unwrap_or n 0) (number_back 0 ds once o d at) ∙ zeroth
 
-skipped : (ws : List (List ℕ)) (wss : List (List (List ℕ))) (name : List ℕ) → (declares_well ws && bytes_eq (word_at 1 ws) name) ≡ false → kind_named (ws ∷ wss) name ≡ kind_named wss name
+pub skipped : (ws : List (List ℕ)) (wss : List (List (List ℕ))) (name : List ℕ) → (declares_well ws && bytes_eq (word_at 1 ws) name) ≡ false → kind_named (ws ∷ wss) name ≡ kind_named wss name
 skipped ws wss name h =
     ap (option_and_then (λ xs. option_map (λ d. kind_said 0 d xs) (declarator_of (first_word_of (word_at 0 xs)))))
     (cond-false (declares_well ws && bytes_eq (word_at 1 ws) name) (Some ws) (find (λ xs. declares_well xs && bytes_eq (word_at 1 xs) name) wss) h)

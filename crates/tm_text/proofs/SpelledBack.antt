@@ -123,6 +123,10 @@ instruction_from all first.While (value.Register r ∷ value.Comparison how ∷ 
 instruction_from all first.If (value.Register r ∷ value.Comparison how ∷ value.Number k ∷ vs) = instruction.If r how k
 instruction_from all f vs = instruction.End
 
+-- a call of an object is one of the object's kind
+pub declared_call : (all : List Declaration) (o : ℕ) (c : Opcode) (with : Operand) → is_call_on all o c with ≡ true → is_call_of (option_map (λ d. d.kind) (slice_get all o)) c with ≡ true
+declared_call all o c with h = sym (ap (λ r. is_call_of r c with) (slice_get-map (λ (d : Declaration). d.kind) all o)) ∙ h
+
 -- a line that says an instruction is read back
 pub object_there : (c : Opcode) (with : Operand) (found : Option Declaration) → is_call_of (option_map (λ d. d.kind) found) c with ≡ true → (d : Declaration) × (found ≡ Some d)
 object_there c with None h = absurd (cc)
@@ -131,8 +135,7 @@ object_there c with (Some d) h = (d, refl)
 instruction_back : (all : List Declaration) → Once all → (i : Instruction) → is_instruction_on all i ≡ true → instruction_from all (line_of_instruction all i).first (line_of_instruction all i).values ≡ i
 instruction_back all once (instruction.Call o c with) h =
     let parts = and_parts (is_call_on all o c with) (takes c with) h in
-    let call = sym (ap (λ r. is_call_of r c with) (slice_get-map (λ (d : Declaration). d.kind) all o)) ∙ parts.0 in
-    let there = object_there c with (slice_get all o) call in
+    let there = object_there c with (slice_get all o) (declared_call all o c with parts.0) in
     ap (λ n. instruction.Call n c (operand_from c (values_of_operand with))) (number_of-name all once o there.0 there.1) ∙ ap (instruction.Call o c) (operand_back c with parts.1)
 instruction_back all once i h = refl
 

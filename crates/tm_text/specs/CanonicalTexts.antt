@@ -1,12 +1,15 @@
 -- The canonical text of an exercise.
-use Rattle.std.specs.Prelude.{ℕ, List, [], ◌∷◌, ◌++◌, codes, flat_map}
+use Rattle.std.specs.Prelude.{◌≡◌, ℕ, ◌≤◌, int_le, Bool, true, ◌&&◌, List, [], ◌∷◌, ◌++◌, codes, flat_map, length}
 use Rattle.std.specs.Fmt.{decimal, signed_decimal}
+use Rattle.std.specs.List.{list_all}
+use Rattle.tm_lines.specs.declared.limits.TheConstants.{GREATEST_NUMBER, LEAST_NUMBER, MOST_BYTES}
 use Rattle.tm_lines.specs.FirstWords.{spelling}
 use Rattle.tm_lines.specs.Numerals.{sign_of}
 use Rattle.tm_text.specs.declared.values.Value.{Value}
 use Rattle.tm_text.specs.declared.values.Value.TheVariants as value
-use Rattle.tm_text.specs.Exercises.{ExerciseView}
+use Rattle.tm_text.specs.Exercises.{ExerciseView, IsWellFormed}
 use Rattle.tm_text.specs.SpelledLines.{SpelledLine, spelled}
+use Rattle.tm_text.specs.Texts.{IsExercise}
 
 -- The word that says a value; a number in its shortest form.
 abbrev pub value_word : Value → List ℕ
@@ -32,3 +35,19 @@ lines_text lines = flat_map line_text lines
 -- The canonical text: the lines that spell the exercise, without blanks and lines that say nothing.
 abbrev pub canonical_text : ExerciseView → List ℕ
 canonical_text x = lines_text (spelled x)
+
+-- A number is one of 64 bits.
+abbrev pub is_long : Value → Bool
+is_long (value.Number k) = int_le LEAST_NUMBER k && int_le k GREATEST_NUMBER
+is_long v = true
+
+-- So is every number that these lines say.
+abbrev pub are_long : List SpelledLine → Bool
+are_long lines = list_all (λ line. list_all is_long line.values) lines
+
+-- The canonical text of a well-formed exercise is a text of it, if its numbers are of 64 bits and the text is no
+-- longer than a text may be.
+abbrev pub CanonicalTextsReadBack : Type 0
+CanonicalTextsReadBack =
+    (x : ExerciseView) → IsWellFormed x → are_long (spelled x) ≡ true → length (canonical_text x) ≤ MOST_BYTES
+    → IsExercise (canonical_text x) x

@@ -21,5 +21,5 @@ pub use printer::print;
 pub use reader::read;
 pub use scripts::Script;
 pub use text_faults::TextFault;
-pub use text_laws::exercises_are_spelled;
+pub use text_laws::{canonical_texts_read_back, exercises_are_spelled};
 pub use tm_lines::{Fault, MOST_BYTES, MOST_OBJECTS};
