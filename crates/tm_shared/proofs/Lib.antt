@@ -1,1 +1,2 @@
 pub mod OwnEventsLemmas
+pub mod CallsLemmas

@@ -1,5 +1,5 @@
 -- What each call of a shared object leaves.
-use Rattle.std.specs.Prelude.{◌≡◌, ◌≢◌, ℕ, suc, ◌<◌, ◌≤◌, max, Bool, true, false, List, [], ◌∷◌, ◌++◌, length, Option, Some, None, IfSome, IfNone}
+use Rattle.std.specs.Prelude.{◌≡◌, ◌≢◌, ℕ, suc, ◌<◌, ◌≤◌, max, true, false, List, [], ◌∷◌, ◌++◌, length}
 use Rattle.tm_base.specs.declared.operations.Op.{Op}
 use Rattle.tm_base.specs.declared.events.Entry.{Entry}
 use Rattle.tm_base.specs.States.{is_waiting}
@@ -60,19 +60,6 @@ pub record IsAdded (l : Label) (old : PassView) (before : TicketView) (o : Op) (
   pub begins : StartsWith was old.seen
   pub made : IsMade l before o e was new.seen later
   pub mine : mine new ≡ mine old ++ e ∷ []
-
--- The events, with one more where one was made.
-abbrev pub with_made : List Entry → Option Entry → List Entry
-with_made es None = es
-with_made es (Some e) = es ++ e ∷ []
-
--- The pass, which held the turn and had seen the whole history, added what was made to it, and gave the turn
--- back. The history is legal, and where nothing was made the ticket stays.
-pub record GaveBack (l : Label) (old : PassView) (before : TicketView) (o : Op) (made : Option Entry) (new : PassView) (later : TicketView) : Type 0 where
-  pub pass : new ≡ record old { seen = with_made old.seen made; holds = false }
-  pub legal : IsLegal l new.seen
-  pub made : IfSome made (λ e. IsMade l before o e old.seen new.seen later)
-  pub same_ticket : IfNone made (later ≡ before)
 
 -- The entry ends the events, and is their first `stop`.
 pub record IsFirstStop (events : List Entry) (e : Entry) : Type 0 where

@@ -1,3 +1,4 @@
 pub mod OwnEvents
 pub mod Calls
+pub mod Turns
 pub mod Faults

@@ -8,8 +8,8 @@ mod faults;
 mod joins;
 mod laws;
 mod objects;
-//#[cfg(test)]
-//mod tests;
+#[cfg(test)]
+mod tests;
 mod turns;
 
 pub use faults::{FinishFault, TryFault};

@@ -3,8 +3,9 @@ ghost use Rattle.std.specs.Result.{result_ok};
 ghost use Rattle.tm_base.specs.declared.operations.Op.TheVariants as op;
 ghost use Rattle.tm_book.specs.Books.{label_of};
 ghost use Rattle.tm_laws.specs.ThreadObjects.{is_begin, is_end};
-ghost use Rattle.tm_shared.specs.Calls.{GaveBack, IsLegal, StillWaits, with_made};
+ghost use Rattle.tm_shared.specs.Calls.{IsLegal, StillWaits};
 ghost use Rattle.tm_shared.specs.OwnEvents.{MayCall, ends_waiting, has_stop, last_stamp};
+ghost use Rattle.tm_shared.specs.Turns.{GaveBack, with_made};
 ghost use Rattle.tm_turn.specs.Passes.{IsHeldBy, IsPassOf, mine};
 
 use crate::books;
