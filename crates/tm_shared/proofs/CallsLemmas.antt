@@ -103,6 +103,10 @@ module _ (l : Label) (old mid new : PassView) (before later : TicketView) (o : O
                 ∙ ap (λ es. es ++ e ∷ []) own;
           }
 
+-- the pass that took the turn has the same number
+pub same_number : (old mid : PassView) (turns misses missed : ℕ) → mid ≡ record old { seen = mid.seen; holds = true; turns = turns; misses = misses; missed = missed } → mid.number ≡ old.number
+same_number old mid turns misses missed took = ap (λ (p : PassView). p.number) took
+
 -- the same of a call that memory may refuse
 pub added_ok : (l : Label) (old mid new : PassView) (before later : TicketView) (o : Op) (answer : Result Entry NoMemory) → GaveBack l mid before o (result_ok answer) new later
     → StartsWith mid.seen old.seen → mid.number ≡ old.number → mine mid ≡ mine old → before.thread ≡ old.number → IfOk answer (λ e. IsAdded l old before o e new later)
@@ -111,15 +115,8 @@ added_ok l old mid new before later o (Err e) gives begins same own thread = tt
 
 -- what was taken since an earlier state of the pass, in which it had no event more of its own
 module _ (l : Label) (first old new : PassView) (went : old ≡ record first { seen = old.seen; turns = old.turns; misses = old.misses; missed = old.missed }) (begins : StartsWith old.seen first.seen) where
-  pub turns_since : first.turns ≤ old.turns → first.misses ≤ old.misses → TookTurns l old new → TookTurns l first new
-  turns_since turns misses took =
-      record {
-        pass = took.pass ∙ ap (λ (p : PassView). let q : PassView = record p { seen = new.seen; turns = new.turns; misses = new.misses; missed = new.missed } in q) went;
-        turns = omega (arith, turns, took.turns);
-        misses = omega (arith, misses, took.misses);
-        begins = StartsWith-trans new.seen old.seen first.seen took.begins begins;
-        legal = took.legal;
-      }
+  pub number_since : old.number ≡ first.number
+  number_since = ap (λ (p : PassView). p.number) went
 
   pub added_since : (before later : TicketView) (o : Op) (e : Entry) → mine old ≡ mine first → IsAdded l old before o e new later → IsAdded l first before o e new later
   added_since before later o e own a =

@@ -1,6 +1,5 @@
 -- The turn was taken and given back.
-use Rattle.std.proofs.Common.{ap}
-use Rattle.tm_shared.proofs.CallsLemmas.{took_turns, added_ok}
+use Rattle.tm_shared.proofs.CallsLemmas.{took_turns, added_ok, same_number}
 use Rattle.tm_shared.proofs.objects.Shared.begin.Goals as goal
 
 pub returns-clause-turn : goal.returns-clause-turn
@@ -13,4 +12,4 @@ pub returns-clause-added : goal.returns-clause-added
 returns-clause-added g c =
     let took = c.take-held.ensures in
     added_ok c.args.self.now.label c.args.pass.now c.take-held.new.pass c.enter.new.pass c.args.ticket.now c.enter.new.ticket c.args.op c.enter.result c.enter.ensures.gives took.begins
-    (ap (λ p. p.number) took.taken) took.mine c.requires.one
+    (same_number c.args.pass.now c.take-held.new.pass _ _ _ took.taken) took.mine c.requires.one
