@@ -1,5 +1,5 @@
 -- What a call leaves, from what each of its steps does.
-use Rattle.std.proofs.Common.{◌≡◌, ℕ, suc, ◌+◌, ◌≤◌, ◌<◌, max, Bool, true, false, List, [], ◌∷◌, ◌++◌, length, length-append, Option, Some, None, IfSome, IfOk, Result, Ok, Err, refl, ap, sym, ◌∙◌, subst, arith}
+use Rattle.std.proofs.Common.{◌≡◌, ℕ, suc, ◌≤◌, max, Bool, true, false, List, [], ◌∷◌, ◌++◌, length, length-append, Option, Some, None, IfSome, IfOk, Result, Ok, Err, ap, sym, ◌∙◌, subst, arith}
 use Rattle.std.specs.Result.{result_ok}
 use Rattle.tm_base.specs.declared.operations.Op.{Op}
 use Rattle.tm_base.specs.declared.memory.NoMemory.{NoMemory}
@@ -11,7 +11,6 @@ use Rattle.tm_book.specs.Books.{BookView, IsEntered, label_of, history_state_of}
 use Rattle.tm_turn.specs.Lists.{StartsWith}
 use Rattle.tm_turn.specs.Passes.{PassView, mine}
 use Rattle.tm_turn.proofs.ListsLemmas.{StartsWith-self, StartsWith-trans, StartsWith-snoc, of_thread-own}
-use Rattle.tm_shared.specs.OwnEvents.{last_stamp}
 use Rattle.tm_shared.specs.Calls.{IsLegal, IsMade, IsAdded, TookTurn, TookTurns}
 use Rattle.tm_shared.specs.Turns.{GaveBack, with_made}
 use Rattle.tm_shared.proofs.OwnEventsLemmas.{events-tell}

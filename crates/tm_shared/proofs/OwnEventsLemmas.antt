@@ -1,7 +1,6 @@
 -- What a thread's own events say of it, by induction over the history.
-use Rattle.std.proofs.Common.{◌≡◌, ◌≢◌, ℕ, ◌≤◌, ◌<◌, Bool, true, false, ◌||◌, ◌==◌, cond, if◌then◌else◌, ⊎_elim, List, [], ◌∷◌, fold, refl, ap, sym, ◌∙◌, subst, arith, eq-eqb, ne_eqb}
-use Rattle.std.specs.List.{list_any}
-use Rattle.std.proofs.lemmas.Bool.{cases_eq, cases_Bool, false_from_ne_true}
+use Rattle.std.proofs.Common.{◌≡◌, ◌≢◌, ℕ, ◌≤◌, Bool, true, false, ◌||◌, cond, if◌then◌else◌, ⊎_elim, List, [], ◌∷◌, fold, refl, ap, sym, ◌∙◌, subst, arith, eq-eqb, ne_eqb}
+use Rattle.std.proofs.lemmas.Bool.{cases_eq, false_from_ne_true}
 use Rattle.tm_base.specs.declared.operations.Op.{Op}
 use Rattle.tm_base.specs.declared.operations.Op.TheVariants as op
 use Rattle.tm_base.specs.declared.replies.Reply.{Reply}
@@ -9,7 +8,7 @@ use Rattle.tm_base.specs.declared.kinds.Kind.{Kind}
 use Rattle.tm_base.specs.declared.kinds.Kind.TheVariants as kind
 use Rattle.tm_base.specs.declared.events.Entry.{Entry}
 use Rattle.tm_base.specs.States.{KindState, State, ThreadObjectState, start_kind_state, is_pending}
-use Rattle.tm_base.specs.Machines.{CanStep, IsInTurn}
+use Rattle.tm_base.specs.Machines.{IsInTurn}
 use Rattle.tm_base.specs.Runs.{Leads}
 use Rattle.tm_base.specs.Histories.{Label, HistoryState, Follows, IsHistory, Lawful, first_history_state, object_at}
 use Rattle.tm_base.specs.Orders.{of_thread}
@@ -19,7 +18,7 @@ use Rattle.tm_laws.specs.ThreadObjects.{has_begun, has_ended, is_begin, is_end}
 use Rattle.tm_laws.proofs.Begun.{Begin-turn, End-turn, Lawful-noted}
 use Rattle.tm_laws.proofs.Reaching.{Follows-moves}
 use Rattle.tm_laws.proofs.StartStateLemmas.{start-free, start-sound}
-use Rattle.tm_shared.specs.OwnEvents.{ends_waiting, last_stamp, has_stop, has_begin, has_end, IsInTurnAfter, MayCall, EventsTell}
+use Rattle.tm_shared.specs.OwnEvents.{ends_waiting, last_stamp, has_stop, has_begin, has_end, IsInTurnAfter, EventsTell}
 
 -- the events of a thread, after one that is its own or not
 own-here : (e : Entry) (es : List Entry) (t : ℕ) → e.thread ≡ t → of_thread (e ∷ es) t ≡ e ∷ of_thread es t
