@@ -33,7 +33,10 @@ impl Outbox {
         ensures kept_where_free { n ≤ self.old.spare → self.new ≡ self.old }
         ensures unchanged { OnErr result (self.new ≡ self.old) }
     {
-        self.backlog.reserve_exact(n as usize)?;
+        if n as usize <= self.backlog.capacity() - self.backlog.len() {
+            return Ok(());
+        }
+        self.backlog.reserve(n as usize)?;
         Ok(())
     }
 

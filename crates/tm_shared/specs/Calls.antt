@@ -38,11 +38,10 @@ pub record LostTurn (old : PassView) (holder : ℕ) (new : PassView) : Type 0 wh
   pub pass : new ≡ record old { misses = suc old.misses; missed = suc holder }
   pub other : holder ≢ old.number
 
--- Where these were the object's events the thread of the ticket `before` made the entry, and it leaves these
--- events `now` and the ticket `later`. In turn: it has the thread of the ticket, and the place that the ticket
--- has for it; it is of the object, and has the operation; it stands at the end, at its place of the history;
--- its stamp is one more than the greater of the thread's last stamp and the object's; and the ticket goes on
--- by it.
+-- The thread of the ticket `before` made the entry on the object, whose events were `was` and are `now`, and
+-- the ticket is `later` now. In turn: it has the thread of the ticket, and the place that the ticket has for
+-- it; it is of the object, and has the operation; it stands at the end of the history, at its place; its stamp
+-- is one more than the greater of the thread's last stamp and the object's; and the ticket goes on by it.
 pub record IsMade (l : Label) (before : TicketView) (o : Op) (e : Entry) (was now : List Entry) (later : TicketView) : Type 0 where
   pub thread : e.thread ≡ before.thread
   pub place : e.place ≡ before.next
