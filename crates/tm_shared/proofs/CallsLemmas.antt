@@ -8,9 +8,9 @@ use Rattle.tm_base.specs.Histories.{Label, IsHistory}
 use Rattle.tm_base.specs.Tickets.{TicketView}
 use Rattle.tm_base.specs.Orders.{of_thread}
 use Rattle.tm_book.specs.Books.{BookView, IsEntered, label_of, history_state_of}
-use Rattle.tm_turn.specs.Lists.{StartsWith}
+use Rattle.tm_turn.specs.Prefixes.{StartsWith}
 use Rattle.tm_turn.specs.Passes.{PassView, mine}
-use Rattle.tm_turn.proofs.ListsLemmas.{StartsWith-self, StartsWith-trans, StartsWith-snoc, of_thread-own}
+use Rattle.tm_turn.proofs.PrefixesLemmas.{StartsWith-self, StartsWith-trans, StartsWith-snoc, of_thread-own}
 use Rattle.tm_shared.specs.Calls.{IsLegal, IsMade, IsAdded, TookTurn, TookTurns}
 use Rattle.tm_shared.specs.Turns.{GaveBack, with_made}
 use Rattle.tm_shared.proofs.OwnEventsLemmas.{events-tell}

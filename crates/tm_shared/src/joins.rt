@@ -1,7 +1,7 @@
 ghost use Rattle.std.specs.Prelude.{◌≡◌, ℕ, ◌<◌, ◌∷◌, [], false, true};
 ghost use Rattle.tm_base.specs.Orders.{of_thread};
 ghost use Rattle.tm_book.specs.Books.{label_of};
-ghost use Rattle.tm_turn.specs.Lists.{AreOf, StartsWith, has, longer};
+ghost use Rattle.tm_turn.specs.Prefixes.{AreOf, StartsWith, has, longer};
 ghost use Rattle.tm_turn.specs.Passes.{IsPassOf, mine};
 
 use crate::objects::{Pass, Shared};

@@ -1,6 +1,6 @@
 -- Until the call was granted the pass only sees more, and its own events stay.
 use Rattle.std.proofs.Common.{◌≡◌, ◌≤◌}
-use Rattle.tm_turn.specs.Lists.{StartsWith}
+use Rattle.tm_turn.specs.Prefixes.{StartsWith}
 use Rattle.tm_turn.specs.Passes.{mine}
 use Rattle.tm_shared.proofs.objects.Shared.finish.Given as goal
 
