@@ -1,0 +1,12 @@
+pub mod ListLemmas
+pub mod SlotsLemmas
+pub mod NumberingLemmas
+pub mod IndexLemmas
+pub mod RefusalLemmas
+pub mod ArrivingLemmas
+pub mod KeepsLemmas
+pub mod ReadyLemmas
+pub mod SettlingLemmas
+pub mod ShowingLemmas
+pub mod OrderLemmas
+pub mod ArrivedLemmas

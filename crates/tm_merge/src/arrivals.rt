@@ -1,0 +1,158 @@
+ghost use Rattle.std.specs.Prelude.{◌≡◌, ◌<◌, ◌≤◌, length, None, OnOk, IfOk, All};
+ghost use Rattle.tm_merge.specs.Lines.{IsNewLine};
+ghost use Rattle.tm_merge.specs.MergerViews.{arrived, nothing_arrived};
+ghost use Rattle.tm_merge.specs.Places.{at_place, at_object};
+ghost use Rattle.tm_merge.specs.Refusals.{refusal};
+ghost use Rattle.tm_merge.specs.Showing.{Joins};
+ghost use Rattle.tm_merge.specs.StoredArrivals.{HasRoomFor, KeepsArrivals, view_of};
+
+mod refusing;
+mod showing;
+
+use crate::lines::Line;
+use std::alloc::Global;
+use tm_base::{Entry, NoMemory};
+
+/// The events that arrived: those that are shown in their order, the others in slots that the lines of
+/// their thread and of their object name. The shown ones have room for all.
+#[derive(Drop)]
+pub(crate) struct Arrivals {
+    threads: Vec<Line>,
+    objects: Vec<Line>,
+    shown: Vec<Entry>,
+    slots: Vec<Option<Entry>>,
+    held: usize,
+}
+
+/// The event of the list with this place in this thread.
+fn event_at_place(events: &[Entry], thread: u32, place: u64) -> Option<Entry>
+    ensures { result ≡ at_place events.now thread place }
+{
+    for event in events {
+        if event.thread == thread && event.place == place {
+            return Some(*event);
+        }
+    }
+    None
+}
+
+/// The event of the list with this place at this object.
+fn event_at_object(events: &[Entry], object: u32, at: u64) -> Option<Entry>
+    ensures { result ≡ at_object events.now object at }
+{
+    for event in events {
+        if event.object == object && event.at == at {
+            return Some(*event);
+        }
+    }
+    None
+}
+
+/// Lines before their first events.
+fn new_lines(alloc: Global, count: usize) -> Result<Vec<Line>, NoMemory>
+    ensures count { IfOk result (λ lines. length lines.items ≡ count) }
+    ensures new { IfOk result (λ lines. All IsNewLine lines.items) }
+{
+    let mut lines = Vec::with_capacity(alloc, count)?;
+    for _ in 0..count {
+        lines.push(Line::make(alloc))?;
+    }
+    Ok(lines)
+}
+
+impl Arrivals {
+    /// Nothing has arrived yet, from threads 0 to `threads` at this many objects.
+    pub(crate) fn make(alloc: Global, threads: u32, objects: u32) -> Result<Arrivals, NoMemory>
+        ensures keeps { IfOk result KeepsArrivals }
+        ensures view { IfOk result (λ arrivals. view_of arrivals ≡ nothing_arrived threads objects) }
+    {
+        let threads = new_lines(alloc, threads as usize + 1)?;
+        let objects = new_lines(alloc, objects as usize)?;
+        Ok(Arrivals {
+            threads,
+            objects,
+            shown: Vec::new(alloc),
+            slots: Vec::new(alloc),
+            held: 0,
+        })
+    }
+
+    /// The event that arrived with this place in this thread.
+    pub(crate) fn at_place(&self, thread: u32, place: u64) -> Option<Entry>
+        requires keeps { KeepsArrivals self.now }
+        requires known { thread < length self.now.threads.items }
+        ensures { result ≡ at_place (arrived (view_of self.now)) thread place }
+    {
+        let line = &self.threads[thread as usize];
+        if place < line.shown() {
+            return event_at_place(self.shown.as_slice(), thread, place);
+        }
+        if place == line.shown() {
+            return line.last();
+        }
+        let slot = line.slot(place)?;
+        self.slots[slot]
+    }
+
+    /// The event that arrived with this place at this object.
+    pub(crate) fn at_object(&self, object: u32, at: u64) -> Option<Entry>
+        requires keeps { KeepsArrivals self.now }
+        requires known { object < length self.now.objects.items }
+        ensures { result ≡ at_object (arrived (view_of self.now)) object at }
+    {
+        let line = &self.objects[object as usize];
+        if at < line.shown() {
+            return event_at_object(self.shown.as_slice(), object, at);
+        }
+        if at == line.shown() {
+            return line.last();
+        }
+        let slot = line.slot(at)?;
+        self.slots[slot]
+    }
+
+    /// Makes room for the event, which isn't refused, and for showing all that is held. Only running out
+    /// of memory refuses it.
+    pub(crate) fn make_room(&mut self, entry: &Entry) -> Result<(), NoMemory>
+        requires keeps { KeepsArrivals self.old }
+        requires accepted { refusal (view_of self.old) entry.now ≡ None }
+        ensures keeps { KeepsArrivals self.new }
+        ensures same { view_of self.new ≡ view_of self.old }
+        ensures room { OnOk result (HasRoomFor self.new entry.now) }
+    {
+        self.shown.reserve(self.held + 1)?;
+        self.slots.reserve(1)?;
+        self.threads[entry.thread as usize].make_room(entry.place)?;
+        self.objects[entry.object as usize].make_room(entry.at)?;
+        Ok(())
+    }
+
+    /// The event, which isn't refused, arrives.
+    pub(crate) fn keep(&mut self, entry: Entry)
+        requires keeps { KeepsArrivals self.old }
+        requires accepted { refusal (view_of self.old) entry ≡ None }
+        requires room { HasRoomFor self.old entry }
+        ensures keeps { KeepsArrivals self.new }
+        ensures joins { Joins (view_of self.old) entry (view_of self.new) }
+    {
+        let slot = self.slots.len();
+        self.threads[entry.thread as usize].add(entry.place, slot);
+        self.objects[entry.object as usize].add(entry.at, slot);
+        self.slots.push_reserved(Some(entry));
+        self.held += 1;
+    }
+
+    /// The events that are shown, in order.
+    pub(crate) fn shown(&self) -> &[Entry]
+        ensures { result.now ≡ self.now.shown.items }
+    {
+        self.shown.as_slice()
+    }
+
+    /// How many events are held.
+    pub(crate) fn held(&self) -> u64
+        ensures { result ≡ self.now.held }
+    {
+        self.held as u64
+    }
+}

@@ -1,0 +1,90 @@
+ghost use Rattle.std.specs.Prelude.{◌≡◌, ◌∷◌, length, IfOk, OnErr, OnOk};
+ghost use Rattle.std.specs.List.Sorted.{IsPermutation};
+ghost use Rattle.tm_merge.specs.MergerViews.{arrived, nothing_arrived};
+ghost use Rattle.tm_merge.specs.Numbering.{HaveOwnPlaces, IsInOrder, IsNumbered, PrefixesAreClosed, StampsRise};
+ghost use Rattle.tm_merge.specs.Refusals.{refusal, stated};
+ghost use Rattle.tm_merge.specs.Showing.{Joins, Settles};
+
+use crate::arrivals::Arrivals;
+use crate::refusals::Refused;
+use std::alloc::Global;
+use std::marker::Model;
+use tm_base::{Entry, NoMemory};
+
+/// A causal merger: it takes events in any order, and shows them in an order in which each stands after
+/// all that happened before it. Contracts see the greatest number of a thread, how many objects there
+/// are, the events that are shown, in order, and those that are held.
+#[derive(Drop)]
+pub struct Merger {
+    arrivals: Arrivals,
+}
+
+impl Model for Merger {
+    ghost use Rattle.tm_merge.specs.MergerViews.{MergerView};
+
+    ghost Value = { MergerView };
+
+    ghost use Rattle.tm_merge.specs.StoredArrivals.{KeepsArrivals, view_of};
+
+    ghost view = { λ m. view_of m.arrivals };
+
+    ghost invariant = { λ m. KeepsArrivals m.arrivals };
+}
+
+impl Merger {
+    /// The merger of events of threads 0 to `threads` at objects 0 to `objects` - 1, before any event.
+    pub fn make(alloc: Global, threads: u32, objects: u32) -> Result<Merger, NoMemory>
+        ensures { IfOk result (λ merger. merger ≡ nothing_arrived threads objects) }
+    {
+        let arrivals = Arrivals::make(alloc, threads, objects)?;
+        Ok(Merger { arrivals })
+    }
+
+    /// Takes the event, which then is held. It is refused where the first of these holds: its thread,
+    /// its object, a place or its stamp is out of range; an event has its place in its thread, or else its
+    /// place at its object; a direct neighbour breaks the rise of stamps, looked for before and after it in
+    /// its thread, then before and after it at its object; memory runs out. A refusal leaves all unchanged.
+    pub fn offer(&mut self, entry: Entry) -> Result<(), Refused>
+        ensures judged { stated result ≡ refusal self.old entry }
+        ensures joins { OnOk result (Joins self.old entry self.new) }
+        ensures arrived { OnOk result (IsPermutation (entry ∷ arrived self.old) (arrived self.new)) }
+        ensures unchanged { OnErr result (self.new ≡ self.old) }
+    {
+        if let Some(refused) = self.arrivals.refusal(&entry) {
+            return Err(refused);
+        }
+        self.arrivals.make_room(&entry)?;
+        self.arrivals.keep(entry);
+        Ok(())
+    }
+
+    /// Shows ready events until there is none, each time the one with the least stamp, and of equal stamps
+    /// the one with the least thread number. An event is ready where it is held and its direct predecessors
+    /// are shown. Answers how many were shown. It takes no memory.
+    pub fn settle(&mut self) -> u64
+        ensures settles { Settles self.old result self.new }
+        ensures arrived { IsPermutation (arrived self.old) (arrived self.new) }
+    {
+        self.arrivals.settle()
+    }
+
+    /// The events that are shown, in order. Each stands after all that happened before it (Lamport, CACM
+    /// 1978), none stands twice, and the first ones, however many, are a consistent cut.
+    pub fn shown(&self) -> &[Entry]
+        ensures value { result.now ≡ self.now.shown }
+        ensures numbered { IsNumbered self.now.shown }
+        ensures in_order { IsInOrder self.now.shown }
+        ensures closed { PrefixesAreClosed self.now.shown (arrived self.now) }
+    {
+        self.arrivals.shown()
+    }
+
+    /// How many events are held, which arrived and aren't shown.
+    pub fn held_count(&self) -> u64
+        ensures count { result ≡ length self.now.held }
+        ensures rise { StampsRise (arrived self.now) }
+        ensures own { HaveOwnPlaces (arrived self.now) }
+    {
+        self.arrivals.held()
+    }
+}

@@ -1,0 +1,74 @@
+use super::*;
+use std::test::Fail;
+use tm_base::{Entry, Op, Reply};
+
+fn event(thread: u32, place: u64, object: u32, at: u64, stamp: u64) -> Entry {
+    Entry {
+        thread,
+        place,
+        object,
+        at,
+        stamp,
+        op: Op::Add(1),
+        reply: Reply::Got(1),
+    }
+}
+
+#[test]
+fn numbers_out_of_range_are_refused(rt: HostRuntime) -> Result<(), Fail> {
+    let mut merger = Merger::make(rt.alloc(), 2, 3)?;
+    for (entry, field) in [
+        (event(3, 1, 0, 1, 1), Field::Thread),
+        (event(2, 1, 3, 1, 1), Field::Object),
+        (event(2, 0, 2, 1, 1), Field::Place),
+        (event(2, 1, 2, 0, 1), Field::At),
+        (event(2, 1, 2, 1, 0), Field::Stamp),
+    ] {
+        assert_eq!(rt; merger.offer(entry), Err(Refused::OutOfRange(field)));
+    }
+    assert_eq!(rt; merger.held_count(), 0);
+    Ok(())
+}
+
+#[test]
+fn an_event_waits_for_all_that_happened_before_it(rt: HostRuntime) -> Result<(), Fail> {
+    let first = event(1, 1, 0, 1, 1);
+    let second = event(1, 2, 1, 1, 2);
+    let third = event(2, 1, 0, 2, 2);
+    let fourth = event(2, 2, 1, 2, 3);
+    let fifth = event(1, 3, 0, 3, 3);
+    let mut merger = Merger::make(rt.alloc(), 2, 2)?;
+    for entry in [fourth, fifth, second, third] {
+        assert_eq!(rt; merger.offer(entry), Ok(()));
+    }
+    assert_eq!(rt; merger.settle(), 0);
+    assert_eq!(rt; merger.offer(first), Ok(()));
+    assert_eq!(rt; merger.settle(), 5);
+    assert_eq!(rt;
+        merger.shown(),
+        [first, second, third, fifth, fourth].as_slice()
+    );
+    assert_eq!(rt; merger.held_count(), 0);
+    Ok(())
+}
+
+#[test]
+fn a_refused_event_is_named_with_the_one_that_is_kept(rt: HostRuntime) -> Result<(), Fail> {
+    let first = event(1, 1, 0, 1, 5);
+    let late = event(1, u64::MAX, 0, u64::MAX, 6);
+    let mut merger = Merger::make(rt.alloc(), 2, 2)?;
+    assert_eq!(rt; merger.offer(first), Ok(()));
+    assert_eq!(rt; merger.offer(late), Ok(()));
+    assert_eq!(rt; merger.settle(), 1);
+    let again = event(1, 1, 1, 1, 1);
+    assert_eq!(rt; merger.offer(again), Err(Refused::TwicePlace(first, again)));
+    let beside = event(2, 1, 0, u64::MAX, 7);
+    assert_eq!(rt;
+        merger.offer(beside),
+        Err(Refused::TwicePlace(late, beside))
+    );
+    let early = event(1, 2, 1, 1, 5);
+    assert_eq!(rt; merger.offer(early), Err(Refused::StampOrder(first, early)));
+    assert_eq!(rt; merger.held_count(), 1);
+    Ok(())
+}
