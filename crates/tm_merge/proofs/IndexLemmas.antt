@@ -72,6 +72,9 @@ module _ (line number : Entry → ℕ) (lines : List Line) (shown : List Entry) 
   found_slot k n s l at slot o there =
       found_both k n ∙ ap (λ p. option_or p (found line number (occupants slots) k n)) (shown_free k n l at (slot_at-later l n s slot)) ∙ held_slot k n s l at slot o there
 
+  pub found_later : (k n : ℕ) (l : Line) → slice_get lines k ≡ Some l → l.shown < n → found line number (shown ++ occupants slots) k n ≡ found line number (occupants slots) k n
+  found_later k n l at later = found_both k n ∙ ap (λ p. option_or p (found line number (occupants slots) k n)) (shown_free k n l at later)
+
   -- a number that no event has is beyond what is shown, and has no slot
   pub free_number : (k n : ℕ) (l : Line) → slice_get lines k ≡ Some l → 0 < n → found line number (shown ++ occupants slots) k n ≡ None → (l.shown < n) × (slot_at l n ≡ None)
   free_number k n l at positive none = (later, free)

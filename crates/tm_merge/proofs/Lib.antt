@@ -10,3 +10,5 @@ pub mod SettlingLemmas
 pub mod ShowingLemmas
 pub mod OrderLemmas
 pub mod ArrivedLemmas
+pub mod HeldOrderLemmas
+pub mod WalkLemmas

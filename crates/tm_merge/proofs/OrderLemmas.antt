@@ -18,7 +18,7 @@ use Rattle.tm_merge.proofs.RefusalLemmas.{direct_cases}
 use Rattle.tm_merge.proofs.SlotsLemmas.{slot_of}
 
 -- what is found is an element that passes the test
-find-element : {A : Type 0} (p : A → Bool) (xs : List A) (x : A) → find p xs ≡ Some x → Contains xs x × (p x ≡ true)
+pub find-element : {A : Type 0} (p : A → Bool) (xs : List A) (x : A) → find p xs ≡ Some x → Contains xs x × (p x ≡ true)
 find-element p [] x h = absurd cc
 find-element p (y ∷ xs) x h = ⊎_elim
     (λ (pass : p y ≡ true).

@@ -6,3 +6,5 @@ pub mod Showing
 pub mod Lines
 pub mod StoredArrivals
 pub mod Candidates
+pub mod Holding
+pub mod HeldOrder

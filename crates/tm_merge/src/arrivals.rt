@@ -6,6 +6,7 @@ ghost use Rattle.tm_merge.specs.Refusals.{refusal};
 ghost use Rattle.tm_merge.specs.Showing.{Joins};
 ghost use Rattle.tm_merge.specs.StoredArrivals.{HasRoomFor, KeepsArrivals, view_of};
 
+mod holding;
 mod refusing;
 mod showing;
 
@@ -90,7 +91,16 @@ impl Arrivals {
         if place == line.shown() {
             return line.last();
         }
-        let slot = line.slot(place)?;
+        self.held_place(thread, place)
+    }
+
+    /// The event that is held with this place in this thread.
+    pub(crate) fn held_place(&self, thread: u32, place: u64) -> Option<Entry>
+        requires keeps { KeepsArrivals self.now }
+        requires known { thread < length self.now.threads.items }
+        ensures { result ≡ at_place (view_of self.now).held thread place }
+    {
+        let slot = self.threads[thread as usize].slot(place)?;
         self.slots[slot]
     }
 
@@ -107,7 +117,16 @@ impl Arrivals {
         if at == line.shown() {
             return line.last();
         }
-        let slot = line.slot(at)?;
+        self.held_object(object, at)
+    }
+
+    /// The event that is held with this place at this object.
+    pub(crate) fn held_object(&self, object: u32, at: u64) -> Option<Entry>
+        requires keeps { KeepsArrivals self.now }
+        requires known { object < length self.now.objects.items }
+        ensures { result ≡ at_object (view_of self.now).held object at }
+    {
+        let slot = self.objects[object as usize].slot(at)?;
         self.slots[slot]
     }
 

@@ -2,6 +2,7 @@
 #![tactic(auto)]
 
 mod arrivals;
+mod holds;
 mod lines;
 mod mergers;
 mod numbering;
@@ -9,6 +10,7 @@ mod refusals;
 #[cfg(test)]
 mod tests;
 
+pub use holds::{Hold, Missing};
 pub use mergers::Merger;
 pub use numbering::{numbered_events_are_closed, numbered_events_are_in_order};
 pub use refusals::{Field, Refused};

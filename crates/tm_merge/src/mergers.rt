@@ -1,11 +1,13 @@
-ghost use Rattle.std.specs.Prelude.{◌≡◌, ◌∷◌, length, IfOk, OnErr, OnOk};
+ghost use Rattle.std.specs.Prelude.{◌≡◌, ◌∷◌, ◌<◌, ◌↔◌, length, IfOk, IfSome, IsSome, OnErr, OnOk};
 ghost use Rattle.std.specs.List.Sorted.{IsPermutation};
+ghost use Rattle.tm_merge.specs.Holding.{IsHeldAt, IsMissing};
 ghost use Rattle.tm_merge.specs.MergerViews.{arrived, nothing_arrived};
 ghost use Rattle.tm_merge.specs.Numbering.{HaveOwnPlaces, IsInOrder, IsNumbered, PrefixesAreClosed, StampsRise};
 ghost use Rattle.tm_merge.specs.Refusals.{refusal, stated};
-ghost use Rattle.tm_merge.specs.Showing.{Joins, Settles};
+ghost use Rattle.tm_merge.specs.Showing.{IsSettled, Joins, Settles};
 
 use crate::arrivals::Arrivals;
+use crate::holds::Hold;
 use crate::refusals::Refused;
 use std::alloc::Global;
 use std::marker::Model;
@@ -20,6 +22,7 @@ pub struct Merger {
 }
 
 impl Model for Merger {
+    ghost use Rattle.tm_merge.specs.Holding.{IsHeldAt, IsMissing};
     ghost use Rattle.tm_merge.specs.MergerViews.{MergerView};
 
     ghost Value = { MergerView };
@@ -86,5 +89,22 @@ impl Merger {
         ensures own { HaveOwnPlaces (arrived self.now) }
     {
         self.arrivals.held()
+    }
+
+    /// The held event before which `k` of them come, by rising stamp, then thread number, then place in the
+    /// thread, and the place for which it waits. `None` exactly where `k` isn't below `held_count`. The
+    /// missing place is the one before the event in its thread, where no event arrived there; else the one
+    /// before it at its object, where none arrived there; else the place for which its direct predecessor
+    /// that isn't shown waits, the thread's first. It needs that nothing was taken since `settle`, or that no
+    /// event is ready.
+    pub fn held(&self, k: u64) -> Option<Hold>
+        requires { IsSettled self.now }
+        ensures some { IsSome result ↔ (k < length self.now.held) }
+        ensures entry { IfSome result (λ hold. IsHeldAt self.now k hold.entry) }
+        ensures missing { IfSome result (λ hold. IsMissing self.now hold.entry hold.missing) }
+    {
+        let entry = self.arrivals.held_at(k)?;
+        let missing = self.arrivals.missing(entry);
+        Some(Hold { entry, missing })
     }
 }

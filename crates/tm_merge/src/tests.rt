@@ -26,7 +26,8 @@ fn numbers_out_of_range_are_refused(rt: HostRuntime) -> Result<(), Fail> {
     ] {
         assert_eq!(rt; merger.offer(entry), Err(Refused::OutOfRange(field)));
     }
-    assert_eq!(rt; merger.held_count(), 0);
+    assert_eq!(rt; merger.settle(), 0);
+    assert_eq!(rt; merger.held(0), None);
     Ok(())
 }
 
@@ -70,5 +71,29 @@ fn a_refused_event_is_named_with_the_one_that_is_kept(rt: HostRuntime) -> Result
     let early = event(1, 2, 1, 1, 5);
     assert_eq!(rt; merger.offer(early), Err(Refused::StampOrder(first, early)));
     assert_eq!(rt; merger.held_count(), 1);
+    Ok(())
+}
+
+#[test]
+fn a_held_event_names_the_place_for_which_it_waits(rt: HostRuntime) -> Result<(), Fail> {
+    let behind = event(1, 2, 0, 2, 4);
+    let far = event(2, 1, 0, 3, 5);
+    let apart = event(2, 3, 1, 1, 4);
+    let alone = event(0, 1, 1, 3, 9);
+    let mut merger = Merger::make(rt.alloc(), 2, 2)?;
+    for entry in [alone, far, apart, behind] {
+        assert_eq!(rt; merger.offer(entry), Ok(()));
+    }
+    assert_eq!(rt; merger.settle(), 0);
+    let at_thread = |thread, place| Missing::Thread { thread, place };
+    for (k, entry, missing) in [
+        (0, behind, at_thread(1, 1)),
+        (1, apart, at_thread(2, 2)),
+        (2, far, at_thread(1, 1)),
+        (3, alone, Missing::Object { object: 1, at: 2 }),
+    ] {
+        assert_eq!(rt; merger.held(k), Some(Hold { entry, missing }));
+    }
+    assert_eq!(rt; merger.held(4), None);
     Ok(())
 }

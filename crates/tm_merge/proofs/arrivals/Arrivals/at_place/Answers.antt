@@ -1,8 +1,7 @@
-use Rattle.std.proofs.Common.{◌≡◌, ◌<◌, ◌≤◌, None, Some, sym, ap, ◌∙◌, arith}
-use Rattle.std.proofs.lemmas.Option.{slice_get_read, slice_get_within}
-use Rattle.tm_merge.specs.Lines.{slot_at}
+use Rattle.std.proofs.Common.{◌≡◌, ◌<◌, ◌≤◌, sym, ap, ◌∙◌, arith}
+use Rattle.std.proofs.lemmas.Option.{slice_get_read}
 use Rattle.tm_merge.specs.Places.{at_place}
-use Rattle.tm_merge.proofs.IndexLemmas.{found_shown, found_last, found_free, found_slot}
+use Rattle.tm_merge.proofs.IndexLemmas.{found_shown, found_last, found_later}
 use Rattle.tm_merge.proofs.arrivals.Arrivals.at_place.Goals as goal
 
 pub returns-then-place-shown : goal.returns-then-place-shown
@@ -22,32 +21,10 @@ returns-then-place-shown-2 c =
     let here : c.args.place ≡ c.index-line.result.now.shown = omega (arith, c.shown-2.ensures) in
     rw here (c.last.ensures ∙ sym (found_last (λ e. e.thread) (λ e. e.place) a.threads.items a.shown.items a.slots.items keeps.threads keeps.thread_tails keeps.numbered.threads c.args.thread c.index-line.result.now line))
 
-pub returns-in_err-slot : goal.returns-in_err-slot
-returns-in_err-slot c =
-    let a = c.args.self.now in
-    let keeps = c.requires.keeps in
-    let line = slice_get_read a.threads.items _ c.args.thread c.index-line.result.now a.threads.ok.0 (omega (arith, a.threads.ok.0, c.requires.known)) c.index-line.ensures in
-    let later : c.index-line.result.now.shown < c.args.place = omega (arith, c.shown.ensures, c.shown-2.ensures) in
-    let free : slot_at c.index-line.result.now c.args.place ≡ None = sym c.slot.ensures ∙ c.in_err-slot.was in
-    c.from_residual.ensures ∙ sym (found_free (λ e. e.thread) (λ e. e.place) a.threads.items a.shown.items a.slots.items keeps.threads keeps.thread_tails keeps.numbered.threads c.args.thread c.args.place c.index-line.result.now line later free)
-
-pub index-requires : goal.index-requires
-index-requires c =
-    let a = c.args.self.now in
-    let keeps = c.requires.keeps in
-    let line = slice_get_read a.threads.items _ c.args.thread c.index-line.result.now a.threads.ok.0 (omega (arith, a.threads.ok.0, c.requires.known)) c.index-line.ensures in
-    let slot : slot_at c.index-line.result.now c.args.place ≡ Some c.in_ok-slot.slot = sym c.slot.ensures ∙ c.in_ok-slot.was in
-    let has = keeps.threads.known c.args.thread c.args.place c.in_ok-slot.slot c.index-line.result.now line slot in
-    let within = slice_get_within a.slots.items c.in_ok-slot.slot (Some has.entry) has.there in
-    omega (arith, a.slots.ok.0, within)
-
 pub returns : goal.returns
 returns c =
     let a = c.args.self.now in
     let keeps = c.requires.keeps in
     let line = slice_get_read a.threads.items _ c.args.thread c.index-line.result.now a.threads.ok.0 (omega (arith, a.threads.ok.0, c.requires.known)) c.index-line.ensures in
-    let slot : slot_at c.index-line.result.now c.args.place ≡ Some c.in_ok-slot.slot = sym c.slot.ensures ∙ c.in_ok-slot.was in
-    let has = keeps.threads.known c.args.thread c.args.place c.in_ok-slot.slot c.index-line.result.now line slot in
-    let within = slice_get_within a.slots.items c.in_ok-slot.slot (Some has.entry) has.there in
-    let there = slice_get_read a.slots.items _ c.in_ok-slot.slot c.index.result.now a.slots.ok.0 (omega (arith, a.slots.ok.0, within)) c.index.ensures in
-    sym (found_slot (λ e. e.thread) (λ e. e.place) a.threads.items a.shown.items a.slots.items keeps.threads keeps.thread_tails keeps.numbered.threads c.args.thread c.args.place c.in_ok-slot.slot c.index-line.result.now line slot c.index.result.now there)
+    let later : c.index-line.result.now.shown < c.args.place = omega (arith, c.shown.ensures, c.shown-2.ensures) in
+    c.held_place.ensures ∙ sym (found_later (λ e. e.thread) (λ e. e.place) a.threads.items a.shown.items a.slots.items keeps.threads keeps.thread_tails keeps.numbered.threads c.args.thread c.args.place c.index-line.result.now line later)
