@@ -1,21 +1,26 @@
 ghost use Rattle.std.specs.Prelude.{◌≡◌, ◌≤◌, ◌<◌, ◌++◌, ◌∷◌, [], true, length, pos, slice_get, IfOk, OnOk, IfSome};
+ghost use Rattle.std.specs.List.{list_all};
+ghost use Rattle.tm_lines.specs.declared.limits.TheConstants.{MOST_BYTES};
 ghost use Rattle.tm_lines.specs.declared.first_words.FirstWord.TheVariants.{Calls, Declares};
 ghost use Rattle.tm_text.specs.declared.values.Value.TheVariants.{Comparison as ComparisonValue, Name as NameValue, Number, Register};
-ghost use Rattle.tm_text.specs.CanonicalTexts.{canonical_text, line_text, lines_text};
+ghost use Rattle.tm_text.specs.CanonicalTexts.{are_long, canonical_text, is_long, line_text, lines_text};
 ghost use Rattle.tm_text.specs.Exercises.{instructions_of, is_instruction_on};
 ghost use Rattle.tm_text.specs.SpelledLines.{line_of_instruction, line_of_kind, lines_behind, lines_of_object, lines_of_program, values_of_operand};
+ghost use Rattle.tm_text.specs.Texts.{IsExercise};
 
 use crate::exercises::Exercise;
-use crate::values::{Value, push_values};
+use crate::values::{Value, integer, natural, push_values};
 use std::alloc::Global;
 use tm_base::{Bytes, Kind, Name, NoMemory, Opcode};
 use tm_lines::{Declarator, FirstWord};
 use tm_programs::{Comparison, Instruction, Operand};
 
 /// The canonical text of the exercise: the lines that spell it, with one space between words, numbers in
-/// their shortest form, and LF after each line. `NoMemory` only where memory runs out.
+/// their shortest form, and LF after each line. It reads as the same exercise, where it is no longer than
+/// `MOST_BYTES`. `NoMemory` only where memory runs out.
 pub fn print(alloc: Global, exercise: &Exercise) -> Result<Bytes, NoMemory>
-    ensures { IfOk result (λ bytes. bytes ≡ canonical_text exercise.now) }
+    ensures text { IfOk result (λ bytes. bytes ≡ canonical_text exercise.now) }
+    ensures reads_back { IfOk result (λ bytes. length bytes ≤ MOST_BYTES → IsExercise bytes exercise.now) }
 {
     let mut out = Vec::new(alloc);
     for object in 0..exercise.objects() {
@@ -32,8 +37,10 @@ fn push_object(
     object: u32,
 ) -> Result<(), NoMemory>
     requires { object < length exercise.now.objects }
-    ensures { OnOk result (IfSome (slice_get exercise.now.objects object)
+    ensures text { OnOk result (IfSome (slice_get exercise.now.objects object)
         (λ d. out.new.items ≡ out.old.items ++ lines_text (lines_of_object exercise.now d))) }
+    ensures long { OnOk result (IfSome (slice_get exercise.now.objects object)
+        (λ d. are_long (lines_of_object exercise.now d) ≡ true)) }
 {
     let kind = exercise.kind(object);
     push_declaration(alloc, out, exercise.name(object), kind)?;
@@ -54,7 +61,8 @@ fn push_declaration(
     name: Name,
     kind: Kind,
 ) -> Result<(), NoMemory>
-    ensures { OnOk result (out.new.items ≡ out.old.items ++ line_text (line_of_kind name kind)) }
+    ensures text { OnOk result (out.new.items ≡ out.old.items ++ line_text (line_of_kind name kind)) }
+    ensures long { list_all is_long (line_of_kind name kind).values ≡ true }
 {
     let name = Value::Name(name);
     match kind {
@@ -76,7 +84,7 @@ fn push_declaration(
         Kind::Async { capacity } => {
             declare(alloc, out, Declarator::Async, &[name, natural(capacity)])
         }
-        Kind::Var { value } => declare(alloc, out, Declarator::Var, &[name, Value::Number(value)]),
+        Kind::Var { value } => declare(alloc, out, Declarator::Var, &[name, integer(value)]),
         Kind::Thread { held: true, .. } => {
             declare(alloc, out, Declarator::Thread, &[name, Value::Held])
         }
@@ -97,13 +105,6 @@ fn declare(
     push_line(alloc, out, FirstWord::Declares(declarator), values)
 }
 
-/// The value that is a natural number.
-fn natural(number: u32) -> Value
-    ensures { result ≡ Number (pos number) }
-{
-    Value::Number(i64::from(number))
-}
-
 /// Appends the lines of the thread's program, up to its `end`.
 fn push_program(
     alloc: Global,
@@ -113,8 +114,10 @@ fn push_program(
 ) -> Result<(), NoMemory>
     requires program { 1 ≤ thread }
     requires known { thread ≤ length exercise.now.programs }
-    ensures { OnOk result (out.new.items ≡ out.old.items
+    ensures text { OnOk result (out.new.items ≡ out.old.items
         ++ lines_text (lines_of_program exercise.now.objects (instructions_of exercise.now thread))) }
+    ensures long { OnOk result
+        (are_long (lines_of_program exercise.now.objects (instructions_of exercise.now thread)) ≡ true) }
 {
     // What holds of every exercise is known from this call.
     let _threads = exercise.threads();
@@ -133,8 +136,9 @@ fn push_instruction(
     instruction: Instruction,
 ) -> Result<(), NoMemory>
     requires { is_instruction_on exercise.now.objects instruction ≡ true }
-    ensures { OnOk result (out.new.items ≡ out.old.items
+    ensures text { OnOk result (out.new.items ≡ out.old.items
         ++ line_text (line_of_instruction exercise.now.objects instruction)) }
+    ensures long { list_all is_long (line_of_instruction exercise.now.objects instruction).values ≡ true }
 {
     match instruction {
         Instruction::Call {
@@ -177,19 +181,21 @@ fn push_instruction(
 
 /// The values of a line that changes the register by the number.
 fn change(register: u8, number: i64) -> [Value; 2]
-    ensures { result ≡ Register register ∷ Number number ∷ [] }
+    ensures values { result ≡ Register register ∷ Number number ∷ [] }
+    ensures long { list_all is_long result ≡ true }
 {
-    [Value::Register(register), Value::Number(number)]
+    [Value::Register(register), integer(number)]
 }
 
 /// The values of a line that compares the register with the number.
 fn test(register: u8, comparison: Comparison, number: i64) -> [Value; 3]
-    ensures { result ≡ Register register ∷ ComparisonValue comparison ∷ Number number ∷ [] }
+    ensures values { result ≡ Register register ∷ ComparisonValue comparison ∷ Number number ∷ [] }
+    ensures long { list_all is_long result ≡ true }
 {
     [
         Value::Register(register),
         Value::Comparison(comparison),
-        Value::Number(number),
+        integer(number),
     ]
 }
 
@@ -201,8 +207,9 @@ fn push_call(
     opcode: Opcode,
     operand: Operand,
 ) -> Result<(), NoMemory>
-    ensures { OnOk result (out.new.items ≡ out.old.items
+    ensures text { OnOk result (out.new.items ≡ out.old.items
         ++ line_text (record { first = Calls opcode; values = NameValue name ∷ values_of_operand operand })) }
+    ensures long { list_all is_long (values_of_operand operand) ≡ true }
 {
     let name = Value::Name(name);
     let first = FirstWord::Calls(opcode);
@@ -211,7 +218,7 @@ fn push_call(
         Operand::Condition(condition) => {
             push_line(alloc, out, first, &[name, natural(u32::from(condition))])
         }
-        Operand::Number(value) => push_line(alloc, out, first, &[name, Value::Number(value)]),
+        Operand::Number(value) => push_line(alloc, out, first, &[name, integer(value)]),
         Operand::Register(register) => {
             push_line(alloc, out, first, &[name, Value::Register(register)])
         }

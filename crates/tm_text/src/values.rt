@@ -1,8 +1,8 @@
-ghost use Rattle.std.specs.Prelude.{◌≡◌, ◌++◌, OnOk};
+ghost use Rattle.std.specs.Prelude.{◌≡◌, ◌++◌, pos, true, OnOk};
 ghost use Rattle.std.specs.Fmt.{signed_decimal};
 ghost use Rattle.tm_lines.specs.Numerals.{sign_of};
-ghost use Rattle.tm_text.specs.CanonicalTexts.{value_word, values_text};
-ghost use Rattle.tm_text.specs.declared.values.Value.TheVariants.{Register};
+ghost use Rattle.tm_text.specs.CanonicalTexts.{is_long, value_word, values_text};
+ghost use Rattle.tm_text.specs.declared.values.Value.TheVariants.{Number, Register};
 
 use std::alloc::Global;
 use tm_base::{Name, NoMemory};
@@ -20,6 +20,22 @@ pub enum Value {
     Hoare,
     Mesa,
     Held,
+}
+
+/// The value that is this number.
+pub fn integer(number: i64) -> Value
+    ensures value { result ≡ Number number }
+    ensures long { is_long result ≡ true }
+{
+    Value::Number(number)
+}
+
+/// The value that is this number.
+pub fn natural(number: u32) -> Value
+    ensures value { result ≡ Number (pos number) }
+    ensures long { is_long result ≡ true }
+{
+    integer(i64::from(number))
 }
 
 /// Appends the words that say the values, each after a space.
