@@ -1,7 +1,7 @@
 -- A value that fits a slot has a word that says it there, and that breaks nothing.
-use Rattle.std.proofs.Common.{◌≡◌, ℕ, ◌<◌, ℤ, pos, ◌-ℤ◌, Bool, true, false, cond, not, ◌||◌, List, [], ◌∷◌, codes, map, bytes_eq, Option, is_none, unwrap_or, refl, ap, ◌∙◌, arith}
+use Rattle.std.proofs.Common.{◌≡◌, ℕ, ◌<◌, ℤ, pos, ◌-ℤ◌, false, cond, not, ◌||◌, List, [], ◌∷◌, codes, map, bytes_eq, Option, is_none, unwrap_or, refl, ap, ◌∙◌, arith}
 use Rattle.std.specs.List.{list_any}
-use Rattle.std.proofs.lemmas.Bool.{and_left, and_right}
+use Rattle.std.proofs.lemmas.Bool.{and_left, and_right, or_from}
 use Rattle.tm_base.specs.declared.kinds.Kind.{Kind}
 use Rattle.tm_base.specs.Names.{IsName, is_name}
 use Rattle.tm_lines.specs.declared.faults.Fault.{Fault}
@@ -28,10 +28,6 @@ pub record IsCalled (f : FirstWord) (found : Option Kind) (name : List ℕ) : Ty
   pub is_name : IsName name
   pub known : is_none found ≡ false
   pub fits : is_of_another_kind f found ≡ false
-
-pub or_none : (a b : Bool) → a ≡ false → b ≡ false → (a || b) ≡ false
-or_none true b h g = absurd (cc)
-or_none false b h g = g
 
 module _ (p : Place) (f : FirstWord) (found : Option Kind) where
   -- the value is one that may stand in the slot
@@ -93,8 +89,8 @@ module _ (p : Place) (f : FirstWord) (found : Option Kind) where
   -- and breaks nothing
   unbroken : (about : Fault) (s : Slot) (v : Value) → Fits s v → breaks p f found about s (value_word v) ≡ false
   unbroken fault.Name slot.NewName (value.Name name) h =
-      or_none (not (is_name name) || bytes_eq name (codes "main")) (list_any (λ earlier. bytes_eq earlier name) p.earlier)
-      (or_none (not (is_name name)) (bytes_eq name (codes "main")) (ap not h.is_name) h.not_main) h.not_earlier
+      or_from (not (is_name name) || bytes_eq name (codes "main")) (list_any (λ earlier. bytes_eq earlier name) p.earlier)
+      (or_from (not (is_name name)) (bytes_eq name (codes "main")) (ap not h.is_name) h.not_main) h.not_earlier
   unbroken fault.Name slot.NewName v h = absurd h
   unbroken fault.Unknown slot.KnownName (value.Name name) h = h.known
   unbroken fault.Unknown slot.KnownName v h = absurd h
@@ -139,4 +135,4 @@ module _ (p : Place) (f : FirstWord) (found : Option Kind) where
   all_unbroken about [] [] h = refl
   all_unbroken about (s ∷ ss) [] h = refl
   all_unbroken about [] (v ∷ vs) h = absurd h
-  all_unbroken about (s ∷ ss) (v ∷ vs) h = or_none (breaks p f found about s (value_word v)) (one_breaks p f found about ss (map value_word vs)) (unbroken about s v h.0) (all_unbroken about ss vs h.1)
+  all_unbroken about (s ∷ ss) (v ∷ vs) h = or_from (breaks p f found about s (value_word v)) (one_breaks p f found about ss (map value_word vs)) (unbroken about s v h.0) (all_unbroken about ss vs h.1)

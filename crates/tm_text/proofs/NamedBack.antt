@@ -10,7 +10,6 @@ use Rattle.tm_base.specs.declared.kinds.Kind.{Kind}
 use Rattle.tm_base.specs.declared.kinds.Kind.TheVariants as kind
 use Rattle.tm_programs.specs.declared.instructions.Instruction.{Instruction}
 use Rattle.tm_programs.specs.declared.instructions.Instruction.TheVariants as instruction
-use Rattle.tm_lines.specs.declared.first_words.Declarator.{Declarator}
 use Rattle.tm_lines.specs.declared.limits.TheConstants.{GREATEST_NUMBER, LEAST_NUMBER}
 use Rattle.tm_lines.specs.FirstWords.{first_word_of}
 use Rattle.tm_lines.specs.NamedLines.{declarator_of, declares_well, kind_named, kind_said, natural_or, word_at}
@@ -22,15 +21,12 @@ use Rattle.tm_text.specs.SpelledLines.{SpelledLine, end_line, line_of_instructio
 use Rattle.tm_text.proofs.NamedNumbers.{skipped}
 use Rattle.tm_text.proofs.SaidNames.{unnumbered}
 use Rattle.tm_text.proofs.SaidObjects.{Fresh, fresh_at}
+use Rattle.tm_text.proofs.SaidPrograms.{AllGood}
 use Rattle.tm_text.proofs.SoundLines.{words_in}
 use Rattle.tm_text.proofs.SoundValues.{Longs, call_back, long_number}
 use Rattle.tm_text.proofs.SpelledBack.{program-append}
-use Rattle.tm_text.proofs.SpelledForwards.{behind, first_program, later_programs, spelled_from}
+use Rattle.tm_text.proofs.SpelledForwards.{behind, first_good, first_program, good_behind, later_programs, left_behind, spelled_from}
 use Rattle.tm_text.proofs.WrittenValues.{IsLong, in_range}
-
--- the declarator of an object of this kind
-abbrev pub declarator : Kind → Option Declarator
-declarator k = declarator_of (Some (line_of_kind [] k).first)
 
 natural_written-back : (other l n m : ℕ) → IsLong (pos n) → l ≤ n → n ≤ m → natural_or other (pos l) (pos m) (value_word (value.Number (pos n))) ≡ n
 natural_written-back other l n m long least most =
@@ -89,30 +85,11 @@ skip_program all (i ∷ q) ls name h =
     let parts = and_parts (is_instruction_on all i) (list_all (is_instruction_on all) q) h in
     skip_none (words_in (line_of_instruction all i)) (map words_in (map (line_of_instruction all) q ++ end_line ∷ ls)) name (declares_none all i parts.0) ∙ skip_program all q ls name parts.1
 
--- the instructions of these programs are ones that they may have
-abbrev pub AllFine : List Declaration → List (List Instruction) → Type 0
-AllFine all [] = Unit {0}
-AllFine all (q ∷ qs) = (list_all (is_instruction_on all) q ≡ true) × AllFine all qs
-
--- the programs that are left behind an object of this kind
-abbrev pub left_behind : Kind → List (List Instruction) → List (List Instruction)
-left_behind (kind.Thread own held) qs = later_programs qs
-left_behind k qs = qs
-
-fine_behind : (all : List Declaration) (k : Kind) (qs : List (List Instruction)) → AllFine all qs → AllFine all (left_behind k qs)
-fine_behind all (kind.Thread own held) [] h = h
-fine_behind all (kind.Thread own held) (q ∷ qs) h = h.1
-fine_behind all k qs h = h
-
-first_fine : (all : List Declaration) (qs : List (List Instruction)) → AllFine all qs → list_all (is_instruction_on all) (first_program qs) ≡ true
-first_fine all [] h = refl
-first_fine all (q ∷ qs) h = h.0
-
-skip_behind : (all : List Declaration) (k : Kind) (qs : List (List Instruction)) (ds : List Declaration) (name : List ℕ) → AllFine all qs
+skip_behind : (all : List Declaration) (k : Kind) (qs : List (List Instruction)) (ds : List Declaration) (name : List ℕ) → AllGood all qs
     → kind_named (map words_in (behind all k qs (λ rest. spelled_from all rest ds))) name ≡ kind_named (map words_in (spelled_from all (left_behind k qs) ds)) name
 skip_behind all (kind.Thread own held) qs ds name h =
     let ls = spelled_from all (later_programs qs) ds in
-    ap (λ lines. kind_named (map words_in lines) name) (program-append all (first_program qs) ls) ∙ skip_program all (first_program qs) ls name (first_fine all qs h)
+    ap (λ lines. kind_named (map words_in lines) name) (program-append all (first_program qs) ls) ∙ skip_program all (first_program qs) ls name (first_good all qs h).fine
 skip_behind all k qs ds name h = refl
 
 -- the numbers of the lines that declare these objects are of 64 bits
@@ -121,7 +98,7 @@ LongKinds [] = Unit {0}
 LongKinds (d ∷ ds) = Longs (line_of_kind d.name d.kind).values × LongKinds ds
 
 -- the name of each object has its kind
-pub named_from : (all : List Declaration) (earlier : List (List ℕ)) (qs : List (List Instruction)) (ds : List Declaration) → Fresh earlier ds → AllFine all qs → LongKinds ds
+pub named_from : (all : List Declaration) (earlier : List (List ℕ)) (qs : List (List Instruction)) (ds : List Declaration) → Fresh earlier ds → AllGood all qs → LongKinds ds
     → (o : ℕ) (d : Declaration) → slice_get ds o ≡ Some d → kind_named (map words_in (spelled_from all qs ds)) d.name ≡ Some (unnumbered d.kind)
 named_from all earlier qs [] fresh fine long o d at = absurd (cc)
 named_from all earlier qs (c ∷ ds) fresh fine long zero d at =
@@ -135,4 +112,4 @@ named_from all earlier qs (c ∷ ds) fresh fine long (suc o) d at =
     let differs : bytes_eq (word_at 1 ws) d.name ≡ false = ap (λ w. bytes_eq w d.name) (well c.name c.kind).1 ∙ other in
     skipped ws (map words_in (behind all c.kind qs (λ rest. spelled_from all rest ds))) d.name (and_right (declares_well ws) (bytes_eq (word_at 1 ws) d.name) differs)
     ∙ skip_behind all c.kind qs ds d.name fine
-    ∙ named_from all (c.name ∷ earlier) (left_behind c.kind qs) ds fresh.2 (fine_behind all c.kind qs fine) long.1 o d at
+    ∙ named_from all (c.name ∷ earlier) (left_behind c.kind qs) ds fresh.2 (good_behind all c.kind qs fine) long.1 o d at

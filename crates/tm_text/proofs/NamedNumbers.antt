@@ -1,7 +1,7 @@
 -- Objects by their names: the number of a name is that of the object that has it.
 use Rattle.std.proofs.Common.{◌≡◌, ◌≢◌, ℕ, zero, suc, ◌+◌, Bool, true, false, ◌&&◌, ◌||◌, List, [], ◌∷◌, slice_get, find, bytes_eq, Option, Some, None, option_map, option_and_then, unwrap_or, refl, sym, ap, ◌∙◌, arith}
 use Rattle.std.specs.List.{list_any}
-use Rattle.std.proofs.lemmas.Bool.{and_left, and_right, cond_both, cond-true, cond-false, false_from_ne_true}
+use Rattle.std.proofs.lemmas.Bool.{and_left, and_right, or_left, or_right, cond_both, cond-true, cond-false, false_from_ne_true}
 use Rattle.std.proofs.lemmas.Slice.Eq.{bytes_eq-Decides}
 use Rattle.tm_base.specs.declared.kinds.Kind.{Kind}
 use Rattle.tm_lines.specs.declared.first_words.Declarator.{Declarator}
@@ -15,14 +15,6 @@ use Rattle.tm_text.proofs.SaidNames.{declarations-more, declarations-same}
 -- one of these objects has the name
 abbrev pub has_name : List Declaration → List ℕ → Bool
 has_name ds name = list_any (λ d. bytes_eq d.name name) ds
-
-pub or_left : (a b : Bool) → a ≡ true → (a || b) ≡ true
-or_left true b e = refl
-or_left false b e = absurd (cc)
-
-pub or_right : (a b : Bool) → b ≡ true → (a || b) ≡ true
-or_right true b e = refl
-or_right false b e = e
 
 name_back : (o : ℕ) (ds : List Declaration) (name : List ℕ) → has_name ds name ≡ true → (i : ℕ) × (number_in o ds name ≡ Some (o + i)) × (name_of ds i ≡ name)
 name_back o [] name h = absurd (cc)

@@ -1,12 +1,12 @@
 -- What the lines of a text without a faulty line say is how its exercise is spelled forwards.
-use Rattle.std.proofs.Common.{◌≡◌, ℕ, suc, Bool, true, false, not, ◌&&◌, ◌||◌, List, [], ◌∷◌, ◌++◌, length, map, find, filter_map, bytes_eq, Option, Some, None, option_and_then, option_map, refl, sym, ap, subst, ◌∙◌}
+use Rattle.std.proofs.Common.{◌≡◌, ℕ, suc, Bool, true, false, ◌&&◌, List, [], ◌∷◌, ◌++◌, length, map, find, filter_map, bytes_eq, Option, Some, None, option_and_then, option_map, refl, sym, ap, subst, ◌∙◌}
 use Rattle.std.specs.List.{cons_option}
 use Rattle.std.proofs.lemmas.List.{append_assoc}
 use Rattle.tm_base.specs.declared.kinds.Kind.{Kind}
 use Rattle.tm_base.specs.declared.kinds.Kind.TheVariants as kind
 use Rattle.tm_programs.specs.declared.instructions.Instruction.{Instruction}
 use Rattle.tm_programs.specs.declared.instructions.Instruction.TheVariants as instruction
-use Rattle.tm_programs.specs.Instructions.{Block, Loop, Choice, with_call}
+use Rattle.tm_programs.specs.Instructions.{Block, with_call}
 use Rattle.tm_lines.specs.declared.first_words.Declarator.{Declarator}
 use Rattle.tm_lines.specs.declared.first_words.Declarator.TheVariants as declares
 use Rattle.tm_lines.specs.declared.first_words.FirstWord.{FirstWord}
@@ -23,24 +23,11 @@ use Rattle.tm_text.specs.Texts.{declarations_said, exercise_of, instruction_said
 use Rattle.tm_text.proofs.Faultless.{Faultless, Fine, faultless, place-first}
 use Rattle.tm_text.proofs.NamedNumbers.{name_of-number, named_is}
 use Rattle.tm_text.proofs.SaidNames.{declarations-more, declarations-same, declared}
+use Rattle.tm_text.proofs.SaidPrograms.{is_inside, is_outside, length-with_call}
 use Rattle.tm_text.proofs.SaidValueLemmas.{IsKnown, declaration_spelled, instruction_spelled, says}
 use Rattle.tm_text.proofs.SaidValues.{is_thread, kind_read, not_thread}
 use Rattle.tm_text.proofs.SpelledForwards.{behind, spelled-from, spelled_from}
 use Rattle.tm_text.proofs.WellFormedTexts.{well_formed-said}
-
--- the first word stands outside of each thread, or inside one
-outside : (b x : Bool) → (not (not b) || x) ≡ false → b ≡ false
-outside true x h = absurd (cc)
-outside false x h = refl
-
-inside : (b x : Bool) → (not b || x) ≡ false → b ≡ true
-inside true x h = refl
-inside false x h = absurd (cc)
-
-length-with_call : (blocks : List Block) → length (with_call blocks) ≡ length blocks
-length-with_call [] = refl
-length-with_call (Loop asks ∷ blocks) = refl
-length-with_call (Choice ∷ blocks) = refl
 
 abbrev pub said : List (List (List ℕ)) → List SpelledLine
 said wss = filter_map line_said wss
@@ -113,29 +100,29 @@ module _ (all : List Declaration) where
   -- one line more
   by_first : (p : Place) (ws : List (List ℕ)) (wss : List (List (List ℕ))) (k : Option Kind) (f : FirstWord) → first_word_of (word_at 0 ws) ≡ Some f → IsKnown all k (word_at 1 ws) → Fine p f k ws → Later (place_after p f (word_at 1 ws)) wss → Later p (ws ∷ wss)
   by_first p ws wss k (first.Declares declares.Thread) e known fine later t =
-      let without = outside p.inside _ fine.allowed in
+      let without = is_outside all p.inside _ fine.allowed in
       let one = declared t declares.Thread ws in
       let qs = programs_said all 0 wss in
       moved p.inside false qs (programs_said all (length p.blocks) (ws ∷ wss)) (one ∷ declarations_said (suc t) wss) (declarations_said t (ws ∷ wss)) (line_of_kind one.name one.kind ∷ said wss) (said (ws ∷ wss)) without (programs-first (length p.blocks) ws wss (first.Declares declares.Thread) e)
       (declarations-more t ws wss declares.Thread (ap declarator_of e)) (said-first ws wss (first.Declares declares.Thread) e ∙ ap (λ l. l ∷ said wss) (sym (declaration_spelled p t declares.Thread k ws fine)))
       (begun t ws qs (declarations_said (suc t) wss) (said wss) (later (suc t)))
-  by_first p ws wss k (first.Declares d) e known fine later t = by_other p t ws wss d k refl refl e (outside p.inside _ fine.allowed) fine (later t)
+  by_first p ws wss k (first.Declares d) e known fine later t = by_other p t ws wss d k refl refl e (is_outside all p.inside _ fine.allowed) fine (later t)
   by_first p ws wss k (first.Calls c) e known fine later t =
-      let same = length-with_call p.blocks in
-      by_instruction p t (length (with_call p.blocks)) ws wss (first.Calls c) (instruction_said all (first.Calls c) ws) e refl (inside p.inside _ fine.allowed)
+      let same = length-with_call all p.blocks in
+      by_instruction p t (length (with_call p.blocks)) ws wss (first.Calls c) (instruction_said all (first.Calls c) ws) e refl (is_inside all p.inside _ fine.allowed)
       (ap (λ n. put_instruction (instruction_said all (first.Calls c) ws) (programs_said all n wss)) (sym same)) (instruction_spelled p all (first.Calls c) k ws refl known fine) (later t)
   by_first p ws wss k first.End e known fine later t =
-      let within = inside p.inside _ fine.allowed in
+      let within = is_inside all p.inside _ fine.allowed in
       moved p.inside true (programs_by all (Some first.End) (length p.blocks) ws (λ d. programs_said all d wss)) (programs_said all (length p.blocks) (ws ∷ wss)) (declarations_said t wss) (declarations_said t (ws ∷ wss)) (end_line ∷ said wss) (said (ws ∷ wss)) within
       (programs-first (length p.blocks) ws wss first.End e) (declarations-same t ws wss (ap declarator_of e)) (said-first ws wss first.End e) (by_end p t ws wss p.blocks within later)
   by_first p ws wss k first.Repeat e known fine later t =
-      by_instruction p t (suc (length p.blocks)) ws wss first.Repeat (instruction_said all first.Repeat ws) e refl (inside p.inside _ fine.allowed) refl (instruction_spelled p all first.Repeat k ws refl known fine) (later t)
+      by_instruction p t (suc (length p.blocks)) ws wss first.Repeat (instruction_said all first.Repeat ws) e refl (is_inside all p.inside _ fine.allowed) refl (instruction_spelled p all first.Repeat k ws refl known fine) (later t)
   by_first p ws wss k first.While e known fine later t =
-      by_instruction p t (suc (length p.blocks)) ws wss first.While (instruction_said all first.While ws) e refl (inside p.inside _ fine.allowed) refl (instruction_spelled p all first.While k ws refl known fine) (later t)
+      by_instruction p t (suc (length p.blocks)) ws wss first.While (instruction_said all first.While ws) e refl (is_inside all p.inside _ fine.allowed) refl (instruction_spelled p all first.While k ws refl known fine) (later t)
   by_first p ws wss k first.If e known fine later t =
-      by_instruction p t (suc (length p.blocks)) ws wss first.If (instruction_said all first.If ws) e refl (inside p.inside _ fine.allowed) refl (instruction_spelled p all first.If k ws refl known fine) (later t)
+      by_instruction p t (suc (length p.blocks)) ws wss first.If (instruction_said all first.If ws) e refl (is_inside all p.inside _ fine.allowed) refl (instruction_spelled p all first.If k ws refl known fine) (later t)
   by_first p ws wss k f e known fine later t =
-      by_instruction p t (length p.blocks) ws wss f (instruction_said all f ws) e refl (inside p.inside _ fine.allowed) refl (instruction_spelled p all f k ws refl known fine) (later t)
+      by_instruction p t (length p.blocks) ws wss f (instruction_said all f ws) e refl (is_inside all p.inside _ fine.allowed) refl (instruction_spelled p all f k ws refl known fine) (later t)
 
   pub said_from : (named : List ℕ → Option Kind) → ((name : List ℕ) → IsKnown all (named name) name) → (p : Place) (wss : List (List (List ℕ))) → Faultless named p wss → Later p wss
   said_from named known p [] h t = subst (λ b. SpellsLeft b [] [] []) (sym h) refl

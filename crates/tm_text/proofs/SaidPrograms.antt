@@ -90,15 +90,15 @@ module _ (ds : List Declaration) where
   programs-first depth ws wss f e = ap (λ found. programs_by ds found depth ws (λ d. programs_said ds d wss)) e
 
   -- the first word stands inside a thread, or outside of each
-  is_outside : (b x : Bool) → (not (not b) || x) ≡ false → b ≡ false
+  pub is_outside : (b x : Bool) → (not (not b) || x) ≡ false → b ≡ false
   is_outside true x h = absurd (cc)
   is_outside false x h = refl
 
-  is_inside : (b x : Bool) → (not b || x) ≡ false → b ≡ true
+  pub is_inside : (b x : Bool) → (not b || x) ≡ false → b ≡ true
   is_inside true x h = refl
   is_inside false x h = absurd (cc)
 
-  length-with_call : (blocks : List Block) → length (with_call blocks) ≡ length blocks
+  pub length-with_call : (blocks : List Block) → length (with_call blocks) ≡ length blocks
   length-with_call [] = refl
   length-with_call (Loop asks ∷ blocks) = refl
   length-with_call (Choice ∷ blocks) = refl

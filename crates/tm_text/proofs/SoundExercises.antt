@@ -1,7 +1,7 @@
 -- The lines that spell a well-formed exercise stand well, and so its canonical text is a text of it.
-use Rattle.std.proofs.Common.{◌≡◌, ℕ, suc, ◌+◌, ◌<◌, ◌≤◌, Bool, true, false, not, ◌&&◌, nat_le, nat_lt, List, [], ◌∷◌, ◌++◌, codes, length, map, filter_map, bytes_eq, slice_get, slice_index_or, Option, Some, None, refl, sym, ap, subst, ◌∙◌, arith}
+use Rattle.std.proofs.Common.{◌≡◌, ℕ, suc, ◌+◌, ◌<◌, ◌≤◌, Bool, true, false, not, ◌&&◌, nat_le, nat_lt, List, [], ◌∷◌, ◌++◌, codes, length, map, filter_map, bytes_eq, slice_get, Option, Some, None, refl, sym, ap, subst, ◌∙◌, arith}
 use Rattle.std.specs.List.{cons_option, list_all, list_any}
-use Rattle.std.proofs.lemmas.Bool.{and_from, and_parts, cond-false, false_from_ne_true}
+use Rattle.std.proofs.lemmas.Bool.{and_from, and_parts, cond-false, false_from_ne_true, or_from}
 use Rattle.std.proofs.lemmas.Bool.Decides.{nat_tests}
 use Rattle.std.proofs.lemmas.Slice.Eq.{bytes_eq-Decides}
 use Rattle.tm_base.specs.declared.kinds.Kind.{Kind}
@@ -9,12 +9,11 @@ use Rattle.tm_base.specs.declared.kinds.Kind.TheVariants as kind
 use Rattle.tm_base.specs.declared.limits.TheConstants.{MOST_THREADS}
 use Rattle.tm_base.specs.Names.{IsName}
 use Rattle.tm_programs.specs.declared.instructions.Instruction.{Instruction}
-use Rattle.tm_programs.specs.Instructions.{IsNested}
 use Rattle.tm_lines.specs.declared.faults.Fault.TheVariants as fault
 use Rattle.tm_lines.specs.declared.first_words.Declarator.{Declarator}
 use Rattle.tm_lines.specs.declared.first_words.Declarator.TheVariants as declares
 use Rattle.tm_lines.specs.declared.first_words.FirstWord.TheVariants as first
-use Rattle.tm_lines.specs.declared.limits.TheConstants.{MOST_BYTES, MOST_INSTRUCTIONS, MOST_OBJECTS}
+use Rattle.tm_lines.specs.declared.limits.TheConstants.{MOST_BYTES, MOST_OBJECTS}
 use Rattle.tm_lines.specs.FirstWords.{declarator_slots, declarator_word, first_word_of, has_count}
 use Rattle.tm_lines.specs.LineFaults.{Place, after_declaration, after_thread, first_place, is_beyond}
 use Rattle.tm_lines.specs.NamedLines.{kind_named, word_at}
@@ -22,19 +21,20 @@ use Rattle.tm_lines.specs.TextFaults.{first_fault, first_fault_from, named_in, t
 use Rattle.tm_text.specs.declared.exercises.Declaration.{Declaration}
 use Rattle.tm_text.specs.declared.values.Value.{Value}
 use Rattle.tm_text.specs.CanonicalTexts.{CanonicalTextsReadBack, are_long, canonical_text, is_long}
-use Rattle.tm_text.specs.Exercises.{ExerciseView, IsKindRead, IsWellFormed, count_of, is_instruction_on, thread_of, thread_of_kind}
+use Rattle.tm_text.specs.Exercises.{ExerciseView, IsKindRead, IsWellFormed, thread_of, thread_of_kind}
 use Rattle.tm_text.specs.SaidLines.{line_said, lines_said}
 use Rattle.tm_text.specs.SpelledLines.{SpelledLine, line_of_instruction, line_of_kind, lines_of_program, spelled}
-use Rattle.tm_text.proofs.FittingValues.{AllFit, or_none}
-use Rattle.tm_text.proofs.NamedBack.{AllFine, LongKinds, left_behind, named_from}
+use Rattle.tm_text.proofs.FittingValues.{AllFit}
+use Rattle.tm_text.proofs.NamedBack.{LongKinds, named_from}
 use Rattle.tm_text.proofs.NamedNumbers.{Once}
 use Rattle.tm_text.proofs.SaidNames.{unnumbered}
 use Rattle.tm_text.proofs.SaidObjects.{Fresh, IsNew}
+use Rattle.tm_text.proofs.SaidPrograms.{AllGood, good_short}
 use Rattle.tm_text.proofs.SoundLines.{AllSound, Sound, lines_back, no_fault, words_back, words_in}
 use Rattle.tm_text.proofs.SoundPrograms.{program_sound}
 use Rattle.tm_text.proofs.SoundValues.{Longs, kind_fits}
 use Rattle.tm_text.proofs.SpelledBack.{program-append}
-use Rattle.tm_text.proofs.SpelledForwards.{behind, first_program, later_programs, spelled-from, spelled_from, threads_count}
+use Rattle.tm_text.proofs.SpelledForwards.{all_good, behind, first_good, first_program, good_behind, later_programs, left_behind, spelled-from, spelled_from, threads_count}
 use Rattle.tm_text.proofs.SpelledTexts.{spelled_both_ways}
 
 long_parts : (ls ms : List SpelledLine) → are_long (ls ++ ms) ≡ true → (are_long ls ≡ true) × (are_long ms ≡ true)
@@ -60,39 +60,13 @@ long_kinds all qs (d ∷ ds) h =
     let parts = longs all qs d ds d.kind refl h in
     (parts.0, long_kinds all (left_behind d.kind qs) ds (long_behind all d.kind qs ds parts.1))
 
--- a program of a well-formed exercise
-pub record Program (all : List Declaration) (q : List Instruction) : Type 0 where
-  pub nested : IsNested q
-  pub fine : list_all (is_instruction_on all) q ≡ true
-  pub short : count_of q ≤ MOST_INSTRUCTIONS
-
-abbrev Programs : List Declaration → List (List Instruction) → Type 0
-Programs all [] = Unit {0}
-Programs all (q ∷ qs) = Program all q × Programs all qs
-
-programs : (all : List Declaration) (qs : List (List Instruction)) → ((n : ℕ) → Program all (slice_index_or qs n [])) → Programs all qs
-programs all [] h = tt
-programs all (q ∷ qs) h = (h 0, programs all qs (λ n. h (suc n)))
-
-first_is : (all : List Declaration) (qs : List (List Instruction)) → Programs all qs → Program all (first_program qs)
-first_is all [] h = record { nested = refl; fine = refl; short = omega arith }
-first_is all (q ∷ qs) h = h.0
-
-later_are : (all : List Declaration) (qs : List (List Instruction)) → Programs all qs → Programs all (later_programs qs)
-later_are all [] h = tt
-later_are all (q ∷ qs) h = h.1
-
-all_fine : (all : List Declaration) (qs : List (List Instruction)) → Programs all qs → AllFine all qs
-all_fine all [] h = tt
-all_fine all (q ∷ qs) h = (h.0.fine, all_fine all qs h.1)
-
 -- the place that objects are declared at, and what is left to be declared
 record Ready (all : List Declaration) (p : Place) (qs : List (List Instruction)) (ds : List Declaration) : Type 0 where
   outside : p.inside ≡ false
   fresh : Fresh p.earlier ds
   objects : p.objects + length ds ≤ MOST_OBJECTS
   threads : p.threads + length (filter_map thread_of ds) ≤ MOST_THREADS
-  programs : Programs all qs
+  programs : AllGood all qs
   long : are_long (spelled_from all qs ds) ≡ true
 
 module _ (all : List Declaration) (named : List ℕ → Option Kind)
@@ -114,9 +88,9 @@ module _ (all : List Declaration) (named : List ℕ → Option Kind)
   kind_sound p name (kind.Async n) new read long outside few threads = declared_sound p declares.Async (line_of_kind name (kind.Async n)).values refl (kind_fits p (named name) name (kind.Async n) new read long) refl few outside
   kind_sound p name (kind.Var v) new read long outside few threads = declared_sound p declares.Var (line_of_kind name (kind.Var v)).values refl (kind_fits p (named name) name (kind.Var v) new read long) refl few outside
   kind_sound p name (kind.Thread own true) new read long outside few threads =
-      declared_sound p declares.Thread (line_of_kind name (kind.Thread own true)).values refl (kind_fits p (named name) name (kind.Thread own true) new read long) refl (or_none (nat_le MOST_OBJECTS p.objects) (nat_le MOST_THREADS p.threads) few (threads own refl)) outside
+      declared_sound p declares.Thread (line_of_kind name (kind.Thread own true)).values refl (kind_fits p (named name) name (kind.Thread own true) new read long) refl (or_from (nat_le MOST_OBJECTS p.objects) (nat_le MOST_THREADS p.threads) few (threads own refl)) outside
   kind_sound p name (kind.Thread own false) new read long outside few threads =
-      declared_sound p declares.Thread (line_of_kind name (kind.Thread own false)).values refl (kind_fits p (named name) name (kind.Thread own false) new read long) refl (or_none (nat_le MOST_OBJECTS p.objects) (nat_le MOST_THREADS p.threads) few (threads own refl)) outside
+      declared_sound p declares.Thread (line_of_kind name (kind.Thread own false)).values refl (kind_fits p (named name) name (kind.Thread own false) new read long) refl (or_from (nat_le MOST_OBJECTS p.objects) (nat_le MOST_THREADS p.threads) few (threads own refl)) outside
 
   abbrev Later : List Declaration → Type 0
   Later ds = (p : Place) (qs : List (List Instruction)) → Ready all p qs ds → AllSound named p (spelled_from all qs ds)
@@ -146,13 +120,13 @@ module _ (all : List Declaration) (named : List ℕ → Option Kind)
   behind_sound p qs d ds own held is ready later =
       let q = first_program qs in
       let rest = spelled_from all (later_programs qs) ds in
-      let one = first_is all qs ready.programs in
+      let one = first_good all qs ready.programs in
       let long = long_parts (lines_of_program all q) rest (longs all qs d ds (kind.Thread own held) is ready.long).1 in
       let items = long_parts (map (line_of_instruction all) q) _ long.0 in
       let count : length (filter_map thread_of (d ∷ ds)) ≡ suc (length (filter_map thread_of ds)) = ap (λ r. length (cons_option r (filter_map thread_of ds))) (ap thread_of_kind is) in
       let objects = ready.objects in
       let threads = ready.threads in
-      let short = one.short in
+      let short = good_short all q one in
       subst (AllSound named (after_thread p d.name)) (sym (program-append all q rest))
       (program_sound all named known (after_thread p d.name) q rest refl one.nested one.fine (omega arith) items.0
       (later (record { inside = false; earlier = d.name ∷ p.earlier; objects = p.objects + 1; threads = p.threads + 1; instructions = 0; blocks = [] }) (later_programs qs) (record {
@@ -160,7 +134,7 @@ module _ (all : List Declaration) (named : List ℕ → Option Kind)
         fresh = ready.fresh.2;
         objects = omega arith;
         threads = omega arith;
-        programs = later_are all qs ready.programs;
+        programs = good_behind all (kind.Thread own held) qs ready.programs;
         long = long.1;
       })))
 
@@ -190,7 +164,7 @@ fresh_from earlier (c ∷ ds) h once =
       fresh_from (c.name ∷ earlier) ds
           (λ o d at.
           let one = h (suc o) d at in
-          (record { is_name = one.0.is_name; not_main = one.0.not_main; not_earlier = or_none (bytes_eq c.name d.name) (list_any (λ name. bytes_eq name d.name) earlier) (differs o d at) one.0.not_earlier }, one.1))
+          (record { is_name = one.0.is_name; not_main = one.0.not_main; not_earlier = or_from (bytes_eq c.name d.name) (list_any (λ name. bytes_eq name d.name) earlier) (differs o d at) one.0.not_earlier }, one.1))
           (λ i j a b at_i at_j e. let next : suc i ≡ suc j = once (suc i) (suc j) a b at_i at_j e in omega arith),
     )
 
@@ -208,20 +182,20 @@ sound x formed long =
     let all = x.objects in
     let same = spelled-from x formed in
     let all_long : are_long (spelled_from all x.programs all) ≡ true = ap are_long (sym same) ∙ long in
-    let each = programs all x.programs (λ n. record { nested = formed.nested (suc n); fine = formed.instructions (suc n); short = formed.short (suc n) }) in
+    let good = all_good x formed in
     let named : List ℕ → Option Kind = kind_named (map words_in (spelled_from all x.programs all)) in
     let few = formed.few_objects in
     let few_threads = formed.few_threads in
     let count = threads_count x formed in
     subst (λ ls. AllSound (kind_named (map words_in ls)) first_place ls) (sym same)
     (objects_sound all named
-    (λ o d at. ((formed.names o d at).0, named_from all [] x.programs all (fresh x formed) (all_fine all x.programs each) (long_kinds all x.programs all all_long) o d at))
+    (λ o d at. ((formed.names o d at).0, named_from all [] x.programs all (fresh x formed) good (long_kinds all x.programs all all_long) o d at))
     first_place x.programs all (record {
       outside = refl;
       fresh = fresh x formed;
       objects = omega arith;
       threads = omega arith;
-      programs = each;
+      programs = good;
       long = all_long;
     }))
 

@@ -1,7 +1,7 @@
 -- Lines whose values fit have no fault when they are written, and say what was written.
 use Rattle.std.proofs.Common.{◌≡◌, ℕ, suc, Bool, true, false, not, ◌&&◌, nat_le, List, [], ◌∷◌, ◌++◌, length, map, find, filter_map, Option, Some, None, refl, sym, ap, ◌∙◌, arith}
 use Rattle.std.specs.List.{cons_option, list_all}
-use Rattle.std.proofs.lemmas.Bool.{cond-false, cond-true}
+use Rattle.std.proofs.lemmas.Bool.{cond-false, cond-true, or_from}
 use Rattle.std.proofs.lemmas.List.{append_assoc, length-map}
 use Rattle.std.proofs.lemmas.List.Folds.{flat_map-map}
 use Rattle.tm_base.specs.declared.kinds.Kind.{Kind}
@@ -24,7 +24,7 @@ use Rattle.tm_text.specs.CanonicalTexts.{lines_text, value_word}
 use Rattle.tm_text.specs.SaidLines.{line_by, line_said}
 use Rattle.tm_text.specs.SpelledLines.{SpelledLine}
 use Rattle.tm_text.proofs.Faultless.{NonePasses, place-first}
-use Rattle.tm_text.proofs.FittingValues.{AllFit, all_said, all_solid, all_unbroken, or_none}
+use Rattle.tm_text.proofs.FittingValues.{AllFit, all_said, all_solid, all_unbroken}
 use Rattle.tm_text.proofs.JoinedWords.{Solid, line_cut, line_printed, spaced, words_cut}
 
 -- the words of a line
@@ -80,9 +80,9 @@ line_first : (l : SpelledLine) (ls : List SpelledLine) → lines_text (l ∷ ls)
 line_first l ls = simp append_assoc (ap (λ bs. spelling l.first ++ (bs ++ 10 ∷ lines_text ls)) (sym (flat_map-map (λ w. 32 ∷ w) value_word l.values)))
 
 -- where no test passes, none is found
-find-none : {X : Type 0} (test : X → Bool) (xs : List X) → NonePasses test xs → find test xs ≡ None
-find-none test [] h = refl
-find-none test (x ∷ xs) h = cond-false (test x) (Some x) (find test xs) h.0 ∙ find-none test xs h.1
+none_found : {X : Type 0} (test : X → Bool) (xs : List X) → NonePasses test xs → find test xs ≡ None
+none_found test [] h = refl
+none_found test (x ∷ xs) h = cond-false (test x) (Some x) (find test xs) h.0 ∙ none_found test xs h.1
 
 module _ (named : List ℕ → Option Kind) where
   module _ (p : Place) (l : SpelledLine) (sound : Sound named p l) where
@@ -101,8 +101,8 @@ module _ (named : List ℕ → Option Kind) where
         let ss = slots_of l.first in
         let unbroken : (about : Fault) → one_breaks p l.first k about ss (map value_word l.values) ≡ false = λ about. all_unbroken p l.first k about ss l.values sound.fits in
         let count : has_count l.first (length (words_in l)) ≡ true = ap (λ n. has_count l.first (suc n)) (length-map l.values value_word) ∙ sound.count in
-        find-none (applies p l.first k (words_in l)) word_faults
-        (or_none (not (is_allowed p.inside l.first)) (one_breaks p l.first k fault.Word ss (map value_word l.values)) (ap not sound.allowed) (unbroken fault.Word), (ap not count, (unbroken fault.Name, (unbroken fault.Unknown, (unbroken fault.Kind, (unbroken fault.Number, (unbroken fault.Register, (sound.depth, (sound.idle, (sound.limit, tt))))))))))
+        none_found (applies p l.first k (words_in l)) word_faults
+        (or_from (not (is_allowed p.inside l.first)) (one_breaks p l.first k fault.Word ss (map value_word l.values)) (ap not sound.allowed) (unbroken fault.Word), (ap not count, (unbroken fault.Name, (unbroken fault.Unknown, (unbroken fault.Kind, (unbroken fault.Number, (unbroken fault.Register, (sound.depth, (sound.idle, (sound.limit, tt))))))))))
 
     faultless_line : fault_of_line named p (bytes_in l) ≡ None
     faultless_line =

@@ -25,7 +25,8 @@ use Rattle.tm_text.specs.Exercises.{ExerciseView, IsWellFormed, is_call_of, is_c
 use Rattle.tm_text.specs.SpelledLines.{SpelledLine, end_line, line_of_instruction, line_of_kind, lines_of_program, spelled, values_of_operand}
 use Rattle.tm_text.specs.Texts.{next_thread, number_named, put_instruction}
 use Rattle.tm_text.proofs.NamedNumbers.{Once, number_of-name}
-use Rattle.tm_text.proofs.SpelledForwards.{Numbered, behind, first_program, later_programs, numbered_other, numbered_thread, numbered_from, spelled-from, spelled_from, threads_count}
+use Rattle.tm_text.proofs.SaidPrograms.{AllGood, Good, length-with_call}
+use Rattle.tm_text.proofs.SpelledForwards.{all_good, Numbered, behind, first_program, later_programs, numbered_other, numbered_thread, numbered_from, spelled-from, spelled_from, threads_count}
 
 -- the kind that a line says by its values after the name
 abbrev kind_from : ℕ → Declarator → List Value → Kind
@@ -153,17 +154,7 @@ abbrev programs_from : List Declaration → ℕ → List SpelledLine → List (L
 programs_from all depth [] = []
 programs_from all depth (l ∷ ls) = programs_by all l.first depth l.values (λ d. programs_from all d ls)
 
-length-with_call : (blocks : List Block) → length (with_call blocks) ≡ length blocks
-length-with_call [] = refl
-length-with_call (Loop asks ∷ blocks) = refl
-length-with_call (Choice ∷ blocks) = refl
-
 module _ (all : List Declaration) (once : Once all) where
-  -- the program is nested, and its instructions are ones that it may have
-  pub record Fit (blocks : List Block) (items : List Instruction) : Type 0 where
-    pub nested : blocks_of blocks items ≡ Some []
-    pub fine : list_all (is_instruction_on all) items ≡ true
-
   put_back : (i j : Instruction) (items : List Instruction) (ps rest : List (List Instruction)) → j ≡ i → ps ≡ items ∷ rest → put_instruction j ps ≡ (i ∷ items) ∷ rest
   put_back i j items ps rest same h = ap (put_instruction j) h ∙ ap (λ k. (k ∷ items) ∷ rest) same
 
@@ -177,7 +168,7 @@ module _ (all : List Declaration) (once : Once all) where
   program_back blocks (instruction.Call o c with ∷ items) ls nested fine =
       let i = instruction.Call o c with in
       let parts = and_parts (is_instruction_on all i) (list_all (is_instruction_on all) items) fine in
-      let depth = length-with_call blocks in
+      let depth = length-with_call all blocks in
       put_back i (instruction_from all (first.Calls c) (line_of_instruction all i).values) items (programs_from all (length blocks) (map (line_of_instruction all) items ++ end_line ∷ ls)) (programs_from all 0 ls) (instruction_back all once i parts.0)
       (ap (λ n. programs_from all n (map (line_of_instruction all) items ++ end_line ∷ ls)) (sym depth) ∙ program_back (with_call blocks) items ls nested parts.1)
   program_back blocks (instruction.Set r k ∷ items) ls nested fine =
@@ -197,18 +188,14 @@ module _ (all : List Declaration) (once : Once all) where
   program_back (Choice ∷ blocks) (instruction.End ∷ items) ls nested fine =
       ap (put_instruction instruction.End) (program_back blocks items ls nested (and_parts (is_instruction_on all instruction.End) (list_all (is_instruction_on all) items) fine).1)
 
-  abbrev pub AllFit : List (List Instruction) → Type 0
-  AllFit [] = Unit {0}
-  AllFit (q ∷ qs) = Fit [] q × AllFit qs
-
   -- the programs that are read from the line of an object of this kind and from what stands behind it
   abbrev ProgramsBack : List (List Instruction) → List ℕ → List Declaration → Kind → Type 0
   ProgramsBack qs name ds k = programs_from all 0 (line_of_kind name k ∷ behind all k qs (λ rest. spelled_from all rest ds)) ≡ qs
 
   abbrev Later : List Declaration → Type 0
-  Later ds = (qs : List (List Instruction)) → length qs ≡ length (filter_map thread_of ds) → AllFit qs → programs_from all 0 (spelled_from all qs ds) ≡ qs
+  Later ds = (qs : List (List Instruction)) → length qs ≡ length (filter_map thread_of ds) → AllGood all qs → programs_from all 0 (spelled_from all qs ds) ≡ qs
 
-  behind_back : (q : List Instruction) (qs : List (List Instruction)) (name : List ℕ) (ds : List Declaration) (own : ℕ) (held : Bool) → Fit [] q → programs_from all 0 (spelled_from all qs ds) ≡ qs → ProgramsBack (q ∷ qs) name ds (kind.Thread own held)
+  behind_back : (q : List Instruction) (qs : List (List Instruction)) (name : List ℕ) (ds : List Declaration) (own : ℕ) (held : Bool) → Good all 0 [] q → programs_from all 0 (spelled_from all qs ds) ≡ qs → ProgramsBack (q ∷ qs) name ds (kind.Thread own held)
   behind_back q qs name ds own held fit h = by held
     where
       behind_it : programs_from all 0 (lines_of_program all q ++ spelled_from all qs ds) ≡ q ∷ qs
@@ -219,19 +206,15 @@ module _ (all : List Declaration) (once : Once all) where
       by true = behind_it
       by false = behind_it
 
-  one_back : (qs : List (List Instruction)) (name : List ℕ) (ds : List Declaration) (k : Kind) → length qs ≡ length (cons_option (thread_of_kind k) (filter_map thread_of ds)) → AllFit qs → Later ds → ProgramsBack qs name ds k
+  one_back : (qs : List (List Instruction)) (name : List ℕ) (ds : List Declaration) (k : Kind) → length qs ≡ length (cons_option (thread_of_kind k) (filter_map thread_of ds)) → AllGood all qs → Later ds → ProgramsBack qs name ds k
   one_back [] name ds (kind.Thread own held) n fit later = absurd (omega arith)
   one_back (q ∷ qs) name ds (kind.Thread own held) n fit later = behind_back q qs name ds own held fit.0 (later qs (omega arith) fit.1)
   one_back qs name ds k n fit later = later qs n fit
 
-  programs_back : (qs : List (List Instruction)) (ds : List Declaration) → length qs ≡ length (filter_map thread_of ds) → AllFit qs → programs_from all 0 (spelled_from all qs ds) ≡ qs
+  programs_back : (qs : List (List Instruction)) (ds : List Declaration) → length qs ≡ length (filter_map thread_of ds) → AllGood all qs → programs_from all 0 (spelled_from all qs ds) ≡ qs
   programs_back [] [] n fit = refl
   programs_back (q ∷ qs) [] n fit = absurd (omega arith)
   programs_back qs (d ∷ ds) n fit = one_back qs d.name ds d.kind n fit (λ rs m h. programs_back rs ds m h)
-
-  all_fit : (qs : List (List Instruction)) → ((n : ℕ) → Fit [] (slice_index_or qs n [])) → AllFit qs
-  all_fit [] h = tt
-  all_fit (q ∷ qs) h = (h 0, all_fit qs (λ n. h (suc n)))
 
 -- what is read from the lines that spell an exercise is that exercise
 pub objects_read : (x : ExerciseView) → IsWellFormed x → objects_from 1 (spelled x) ≡ x.objects
@@ -242,7 +225,7 @@ programs_read : (x : ExerciseView) → IsWellFormed x → programs_from x.object
 programs_read x formed =
     let many : length x.programs ≡ length (filter_map thread_of x.objects) = sym (threads_count x formed) in
     ap (programs_from x.objects 0) (spelled-from x formed)
-    ∙ programs_back x.objects formed.once x.programs x.objects many (all_fit x.objects formed.once x.programs (λ n. record { nested = formed.nested (suc n); fine = formed.instructions (suc n) }))
+    ∙ programs_back x.objects formed.once x.programs x.objects many (all_good x formed)
 
 -- two exercises that are spelled alike are one
 pub spelled_once : (x y : ExerciseView) → IsWellFormed x → IsWellFormed y → spelled x ≡ spelled y → x ≡ y

@@ -2,12 +2,14 @@
 use Rattle.std.proofs.Common.{◌≡◌, ℕ, zero, suc, ◌+◌, List, [], ◌∷◌, ◌++◌, drop, length, filter_map, flat_map, slice_index_or, Some, None, arith, refl, sym, ap, ◌∙◌}
 use Rattle.std.specs.List.{range_with_len, cons_option}
 use Rattle.std.proofs.lemmas.List.FromFn.{length-range_with_len}
+use Rattle.std.proofs.lemmas.List.Sums.{length-filter}
 use Rattle.tm_base.specs.declared.kinds.Kind.{Kind}
 use Rattle.tm_base.specs.declared.kinds.Kind.TheVariants as kind
 use Rattle.tm_programs.specs.declared.instructions.Instruction.{Instruction}
 use Rattle.tm_text.specs.declared.exercises.Declaration.{Declaration}
-use Rattle.tm_text.specs.Exercises.{ExerciseView, IsWellFormed, instructions_of, thread_of, thread_of_kind}
+use Rattle.tm_text.specs.Exercises.{ExerciseView, IsWellFormed, instructions_of, is_counted, thread_of, thread_of_kind}
 use Rattle.tm_text.specs.SpelledLines.{SpelledLine, line_of_kind, lines_of_object, lines_of_program, spelled}
+use Rattle.tm_text.proofs.SaidPrograms.{AllGood, Good}
 
 abbrev pub first_program : List (List Instruction) → List Instruction
 first_program [] = []
@@ -16,6 +18,33 @@ first_program (q ∷ qs) = q
 abbrev pub later_programs : List (List Instruction) → List (List Instruction)
 later_programs [] = []
 later_programs (q ∷ qs) = qs
+
+-- the programs that are left behind an object of this kind
+abbrev pub left_behind : Kind → List (List Instruction) → List (List Instruction)
+left_behind (kind.Thread own held) qs = later_programs qs
+left_behind k qs = qs
+
+pub first_good : (all : List Declaration) (qs : List (List Instruction)) → AllGood all qs → Good all 0 [] (first_program qs)
+first_good all [] h = record { short = omega arith; nested = refl; fine = refl }
+first_good all (q ∷ qs) h = h.0
+
+pub good_behind : (all : List Declaration) (k : Kind) (qs : List (List Instruction)) → AllGood all qs → AllGood all (left_behind k qs)
+good_behind all (kind.Thread own held) [] h = h
+good_behind all (kind.Thread own held) (q ∷ qs) h = h.1
+good_behind all k qs h = h
+
+good_from : (all : List Declaration) (qs : List (List Instruction)) → ((n : ℕ) → Good all 0 [] (slice_index_or qs n [])) → AllGood all qs
+good_from all [] h = tt
+good_from all (q ∷ qs) h = (h 0, good_from all qs (λ n. h (suc n)))
+
+-- the programs of a well-formed exercise
+pub all_good : (x : ExerciseView) → IsWellFormed x → AllGood x.objects x.programs
+all_good x formed =
+    good_from x.objects x.programs
+    (λ n.
+    let short = formed.short (suc n) in
+    let count = length-filter is_counted (slice_index_or x.programs n []) in
+    record { short = omega arith; nested = formed.nested (suc n); fine = formed.instructions (suc n) })
 
 -- what follows the line of an object; of a thread's its program comes first
 abbrev pub behind : List Declaration → Kind → List (List Instruction) → (List (List Instruction) → List SpelledLine) → List SpelledLine
