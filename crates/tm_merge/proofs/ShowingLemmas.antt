@@ -217,3 +217,10 @@ module _ (a : Arrivals) (keeps : KeepsArrivals a) where
       absurd (omega (arith, all, late, there)))
       (λ (lacks : has_predecessors a.shown.items e ≡ false). lacks)
       (cases_Bool (has_predecessors a.shown.items e))
+
+  -- where nothing is held, nothing is ready
+  pub settled_empty : a.held ≡ 0 → IsSettled (view_of a)
+  settled_empty nothing e h =
+      let count = keeps.count in
+      let within = h.1 in
+      absurd (omega (arith, nothing, count, within))

@@ -58,6 +58,9 @@ impl Arrivals {
         requires { KeepsArrivals self.now }
         ensures { MatchOption result (IsSettled (view_of self.now)) (λ next. IsNextIn self.now next.0 next.1) }
     {
+        if self.held == 0 {
+            return None;
+        }
         let mut best = None;
         for thread in 0..self.threads.len() {
             best = self.better(thread, best);

@@ -3,8 +3,11 @@ use Rattle.std.proofs.lemmas.Option.{slice_get_read, slice_get_within}
 use Rattle.tm_merge.specs.Candidates.{IsBestIn}
 use Rattle.tm_merge.specs.Showing.{IsNext}
 use Rattle.tm_merge.specs.StoredArrivals.{view_of}
-use Rattle.tm_merge.proofs.ShowingLemmas.{settled, thread_there}
+use Rattle.tm_merge.proofs.ShowingLemmas.{settled, settled_empty, thread_there}
 use Rattle.tm_merge.proofs.arrivals.Arrivals.soonest.Goals as goal
+
+pub returns-then-self-eq0 : goal.returns-then-self-eq0
+returns-then-self-eq0 c = settled_empty c.args.self.now c.requires c.if-self-eq0.true
 
 pub returns-in_err-slot : goal.returns-in_err-slot
 returns-in_err-slot c =
