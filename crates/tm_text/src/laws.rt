@@ -1,4 +1,6 @@
+ghost use Rattle.tm_text.specs.CanonicalTexts.{CanonicalTextsReadBack};
 ghost use Rattle.tm_text.specs.Exercises.{CallsFit};
+ghost use Rattle.tm_text.specs.SaidLines.{SpelledBothWays};
 ghost use Rattle.tm_text.specs.Scripts.{AskedCallsFit};
 ghost use Rattle.tm_text.specs.Texts.{ExercisesAreWellFormed, OneExercise};
 
@@ -20,4 +22,16 @@ pub fn one_exercise()
 /// The exercise of a text is well formed.
 pub fn exercises_are_well_formed()
     ensures { ExercisesAreWellFormed }
+{}
+
+/// The lines of a text of an exercise spell it forwards, and a text without a faulty line is one of the
+/// well-formed exercise that its lines spell.
+pub fn exercises_are_spelled()
+    ensures { SpelledBothWays }
+{}
+
+/// The canonical text of a well-formed exercise, whose numbers are of 64 bits, is a text of it, where it is no
+/// longer than a text may be.
+pub fn canonical_texts_read_back()
+    ensures { CanonicalTextsReadBack }
 {}

@@ -12,14 +12,15 @@ mod scripts;
 #[cfg(test)]
 mod tests;
 mod text_faults;
-mod text_laws;
 mod values;
 
 pub use exercises::{Declaration, Exercise};
-pub use laws::{asked_calls_fit, calls_fit, exercises_are_well_formed, one_exercise};
+pub use laws::{
+    asked_calls_fit, calls_fit, canonical_texts_read_back, exercises_are_spelled,
+    exercises_are_well_formed, one_exercise,
+};
 pub use printer::print;
 pub use reader::read;
 pub use scripts::Script;
 pub use text_faults::TextFault;
-pub use text_laws::{canonical_texts_read_back, exercises_are_spelled};
 pub use tm_lines::{Fault, MOST_BYTES, MOST_OBJECTS};
