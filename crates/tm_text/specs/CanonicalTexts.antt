@@ -32,16 +32,16 @@ line_text line = spelling line.first ++ values_text line.values ++ 10 ∷ []
 abbrev pub lines_text : List SpelledLine → List ℕ
 lines_text lines = flat_map line_text lines
 
--- The canonical text: the lines that spell the exercise, without blanks and lines that say nothing.
+-- The canonical text of an exercise: the lines that spell it, in order of declaration, and no others.
 abbrev pub canonical_text : ExerciseView → List ℕ
 canonical_text x = lines_text (spelled x)
 
--- A number is one of 64 bits.
+-- The value, if it is a number, is one of 64 bits.
 abbrev pub is_long : Value → Bool
 is_long (value.Number k) = int_le LEAST_NUMBER k && int_le k GREATEST_NUMBER
 is_long v = true
 
--- So is every number that these lines say.
+-- Every number that these lines say is one of 64 bits.
 abbrev pub are_long : List SpelledLine → Bool
 are_long lines = list_all (λ line. list_all is_long line.values) lines
 
