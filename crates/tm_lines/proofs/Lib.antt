@@ -1,6 +1,5 @@
 mod ChecksLemmas
 mod FirstWordsLemmas
-mod LineFaultsLemmas
 mod LinesLemmas
 mod NamesLemmas
 mod NumeralsLemmas

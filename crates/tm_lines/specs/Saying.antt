@@ -1,16 +1,24 @@
 -- What the reader of lines says of a line without a fault.
-use Rattle.std.specs.Prelude.{◌≡◌, ℕ, false, ◌&&◌, nat_le, List, drop, length, Some}
+use Rattle.std.specs.Prelude.{◌≡◌, ℕ, false, ◌&&◌, nat_le, List, length, Some}
 use Rattle.tm_programs.specs.declared.limits.TheConstants.{MOST_BLOCKS}
 use Rattle.tm_lines.specs.declared.first_words.FirstWord.{FirstWord}
 use Rattle.tm_lines.specs.declared.saying.Said.{Said}
+use Rattle.tm_lines.specs.declared.words.Words.{Words}
 use Rattle.tm_lines.specs.FirstWords.{first_word_of}
 use Rattle.tm_lines.specs.LineFaults.{Place, is_beyond, opens}
-use Rattle.tm_lines.specs.Lines.{words_of}
 use Rattle.tm_lines.specs.NamedLines.{word_at}
 
--- The words are the first word, spelled, and those of the rest.
+-- The first four words of these, and how many these are.
+pub record AreFirst (words : Words) (ws : List (List ℕ)) : Type 0 where
+  pub first : words.first.now ≡ word_at 0 ws
+  pub second : words.second.now ≡ word_at 1 ws
+  pub third : words.third.now ≡ word_at 2 ws
+  pub fourth : words.fourth.now ≡ word_at 3 ws
+  pub count : words.count ≡ length ws
+
+-- The words begin with this first word, spelled.
 abbrev pub IsSaid : Said → List (List ℕ) → Type 0
-IsSaid said ws = (first_word_of (word_at 0 ws) ≡ Some said.first) × (words_of said.rest.now ≡ drop 1 ws)
+IsSaid said ws = (first_word_of (word_at 0 ws) ≡ Some said.first) × AreFirst said.words ws
 
 -- There may be one more block, object, thread or instruction, where a line with this first word makes one.
 pub record HasRoom (p : Place) (f : FirstWord) : Type 0 where

@@ -1,4 +1,4 @@
-ghost use Rattle.std.specs.Prelude.{◌≡◌, ℕ, ◌+◌, ◌^◌, ◌<◌, ◌∷◌, ◌&&◌, false, drop, length, nat_le, List, Some, None, IfNone, MatchResult};
+ghost use Rattle.std.specs.Prelude.{◌≡◌, ℕ, ◌&&◌, false, drop, length, nat_le, List, Some, None, IfNone, MatchResult};
 ghost use Rattle.std.specs.List.{find};
 ghost use Rattle.tm_lines.specs.FirstWords.{first_word_of, slots_of};
 ghost use Rattle.tm_lines.specs.Found.{applies_by, block_fault, found_by, name_fault};
@@ -7,35 +7,26 @@ ghost use Rattle.tm_lines.specs.Lines.{words_of};
 ghost use Rattle.tm_lines.specs.NamedLines.{word_at};
 ghost use Rattle.tm_lines.specs.TextFaults.{named_in, text_lines};
 ghost use Rattle.tm_lines.specs.Checks.{IsLine};
-ghost use Rattle.tm_lines.specs.Saying.{HasRoom};
+ghost use Rattle.tm_lines.specs.Saying.{AreFirst, HasRoom};
 
 use crate::faults::{Fault, FaultyLine};
 use crate::first_words::FirstWord;
 use crate::found::Found;
-use crate::lines::{first_word, is_printed};
+use crate::lines::is_printed;
 use crate::names::Names;
 use crate::places::Place;
 use crate::saying::{Line, Said};
 use crate::slots::found_in;
-use crate::words::next_word;
+use crate::words::Words;
 use tm_base::Kind;
 
 /// What is wrong with a line that isn't ignored and stands at this place, where the text has these names.
 pub fn fault_of_line(names: &Names, place: &Place, line: &[u8]) -> Option<Fault>
     ensures { result ≡ fault_of_line (named_in (text_lines names.now)) place.now line.now }
 {
-    if !is_printed(line) {
-        return Some(Fault::Byte);
-    }
-    match first_word(line) {
-        None => Some(Fault::Word),
-        Some((word, rest)) => {
-            let (second, _) = next_word(rest);
-            match judge(names, place, line, word, second, rest) {
-                Ok(_) => None,
-                Err(fault) => Some(fault),
-            }
-        }
+    match judge(names, place, line, &Words::of_line(line)) {
+        Ok(_) => None,
+        Err(fault) => Some(fault),
     }
 }
 
@@ -44,64 +35,55 @@ impl<'a> Place<'a> {
     pub fn take(&mut self, names: &Names, number: u64, line: &'a [u8]) -> Line<'a>
         ensures { IsLine (named_in (text_lines names.now)) number self.old line.now result self.new }
     {
-        match first_word(line) {
-            None => Line::Ignored,
-            Some((word, rest)) => {
-                if matches!(word, [b'#', ..]) {
-                    return Line::Ignored;
-                }
-                let (second, _) = next_word(rest);
-                match judge(names, self, line, word, second, rest) {
-                    Ok(first) => {
-                        self.go_on(first, second);
-                        Line::Said(Said { first, rest })
-                    }
-                    Err(kind) => Line::Faulty(FaultyLine { line: number, kind }),
-                }
+        let words = Words::of_line(line);
+        if words.are_ignored() {
+            return Line::Ignored;
+        }
+        match judge(names, self, line, &words) {
+            Ok(first) => {
+                self.go_on(first, words.second);
+                Line::Said(Said { first, words })
             }
+            Err(kind) => Line::Faulty(FaultyLine { line: number, kind }),
         }
     }
 }
 
-/// The first word of the line, or what is wrong with the line. It begins with this word and goes on with the
-/// rest, which begins with the second.
-fn judge(
-    names: &Names,
-    place: &Place,
-    line: &[u8],
-    word: &[u8],
-    second: &[u8],
-    rest: &[u8],
-) -> Result<FirstWord, Fault>
-    requires words { words_of line.now ≡ word.now ∷ words_of rest.now }
-    requires second { second.now ≡ word_at 0 (words_of rest.now) }
+/// The first word of the line with these words, or what is wrong with the line.
+fn judge(names: &Names, place: &Place, line: &[u8], words: &Words) -> Result<FirstWord, Fault>
+    requires words { AreFirst words.now (words_of line.now) }
     ensures said { MatchResult result
         (λ first. (fault_of_line (named_in (text_lines names.now)) place.now line.now ≡ None)
-        × (first_word_of word.now ≡ Some first))
+        × (first_word_of (word_at 0 (words_of line.now)) ≡ Some first))
         (λ fault. fault_of_line (named_in (text_lines names.now)) place.now line.now ≡ Some fault) }
     ensures room { MatchResult result (λ first. HasRoom place.now first) (λ _. Unit {0}) }
 {
     if !is_printed(line) {
         return Err(Fault::Byte);
     }
-    match FirstWord::of_word(word) {
+    match FirstWord::of_word(words.first) {
         None => Err(Fault::Word),
-        Some(first) => match fault_of_words(place, first, names.kind(second), rest) {
+        Some(first) => match fault_of_words(place, first, names.kind(words.second), words) {
             None => Ok(first),
             Some(fault) => Err(fault),
         },
     }
 }
 
-/// What is wrong with the words of a line that begins with this first word, and goes on so, where the object
-/// that it names has this kind.
-fn fault_of_words(place: &Place, first: FirstWord, kind: Option<Kind>, rest: &[u8]) -> Option<Fault>
-    ensures fault { (w : List ℕ) →
-        result ≡ fault_of_words place.now kind (w ∷ words_of rest.now) (Some first) }
+/// What is wrong with these words of a line that begins with this first word, where the object that it names has
+/// this kind.
+fn fault_of_words(
+    place: &Place,
+    first: FirstWord,
+    kind: Option<Kind>,
+    words: &Words,
+) -> Option<Fault>
+    ensures fault { (ws : List (List ℕ)) → AreFirst words.now ws
+        → result ≡ fault_of_words place.now kind ws (Some first) }
     ensures room { IfNone result (HasRoom place.now first) }
 {
-    let (found, words) = found_by(place, first, kind, rest);
-    fault_found(place, first, found, 1 + words)
+    let found = found_by(place, first, kind, words);
+    fault_found(place, first, found, words.count)
 }
 
 /// The first kind of fault that applies to so many words in which these were found.
@@ -156,36 +138,18 @@ fn block_fault(place: &Place, first: FirstWord) -> Option<Fault>
     }
 }
 
-/// What the words of the line break in the slots after this first word, and how many there are.
-fn found_by(place: &Place, first: FirstWord, kind: Option<Kind>, line: &[u8]) -> (Found, usize)
-    ensures found { result.0 ≡ found_by place.now first kind (slots_of first) (words_of line.now) }
-    ensures words { result.1 ≡ length (words_of line.now) }
-    ensures short { result.1 < 2 ^ 63 }
+/// What the words after this first word break in its slots.
+fn found_by(place: &Place, first: FirstWord, kind: Option<Kind>, words: &Words) -> Found
+    ensures { (ws : List (List ℕ)) → AreFirst words.now ws
+        → result ≡ found_by place.now first kind (slots_of first) (drop 1 ws) }
 {
     let mut found = Found::NOTHING;
-    let mut rest = line;
     let slots = first.slots();
     for (i, slot) in slots.iter().enumerate() {
-        match first_word(rest) {
-            None => return (found, i),
-            Some((word, next)) => {
-                found = found.or(found_in(place, first, kind, *slot, word));
-                rest = next;
-            }
+        if words.count <= i + 1 {
+            return found;
         }
+        found = found.or(found_in(place, first, kind, *slot, words.at(i + 1)));
     }
-    (found, slots.len() + word_count(rest))
-}
-
-/// How many words the line has.
-fn word_count(line: &[u8]) -> usize
-    ensures { result ≡ length (words_of line.now) }
-{
-    let mut count = 0usize;
-    let mut rest = line;
-    while let Some((_, next)) = first_word(rest) {
-        count += 1;
-        rest = next;
-    }
-    count
+    found
 }

@@ -1,11 +1,12 @@
 use crate::faults::FaultyLine;
 use crate::first_words::FirstWord;
+use crate::words::Words;
 
-/// What a line says that has no fault: its first word, and what follows it.
+/// What a line says that has no fault: its first word, and its words.
 #[derive(Clone, Copy, Debug)]
 pub struct Said<'a> {
     pub first: FirstWord,
-    pub rest: &'a [u8],
+    pub words: Words<'a>,
 }
 
 /// What one line of a text is.

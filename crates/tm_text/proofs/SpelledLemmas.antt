@@ -1,5 +1,5 @@
 -- The programs that lines spell, one line more.
-use Rattle.std.proofs.Common.{◌≡◌, ℕ, zero, suc, ◌<◌, not, List, [], ◌∷◌, ◌++◌, drop, length, Some, refl, sym, ap, ◌∙◌, arith}
+use Rattle.std.proofs.Common.{◌≡◌, ℕ, zero, suc, ◌<◌, not, List, [], ◌∷◌, ◌++◌, length, Some, refl, sym, ap, ◌∙◌, arith}
 use Rattle.std.proofs.lemmas.Bool.{cond-true, cond-false}
 use Rattle.std.proofs.lemmas.List.{append_assoc, append-nil}
 use Rattle.tm_programs.specs.declared.instructions.Instruction.{Instruction}
@@ -12,6 +12,7 @@ use Rattle.tm_lines.specs.declared.words.Words.{Words}
 use Rattle.tm_lines.specs.Checks.{Check, Follows}
 use Rattle.tm_lines.specs.Lines.{is_ignored, words_of}
 use Rattle.tm_lines.specs.NamedLines.{word_at}
+use Rattle.tm_lines.specs.Saying.{AreFirst}
 use Rattle.tm_lines.specs.TextFaults.{said_words, text_lines}
 use Rattle.tm_text.specs.declared.exercises.Declaration.{Declaration}
 use Rattle.tm_text.specs.SpelledPrograms.{Spelled, after_end, after_line, put_begun, with_said, words_after}
@@ -58,22 +59,10 @@ instruction_said-words ds first.While ws = refl
 instruction_said-words ds first.If ws = refl
 instruction_said-words ds first.End ws = refl
 
-word_at-drop : (n : ℕ) (ws : List (List ℕ)) → word_at n (drop 1 ws) ≡ word_at (suc n) ws
-word_at-drop n [] = refl
-word_at-drop n (w ∷ ws) = refl
-
--- the words that bytes begin with
-pub record BeginsWith (words : Words) (rest : List ℕ) : Type 0 where
-  pub first : words.first.now ≡ word_at 0 (words_of rest)
-  pub second : words.second.now ≡ word_at 1 (words_of rest)
-  pub third : words.third.now ≡ word_at 2 (words_of rest)
-
-words_after-are : (words : Words) (rest : List ℕ) (ws : List (List ℕ)) → BeginsWith words rest → words_of rest ≡ drop 1 ws → words_after words ≡ [] ∷ word_at 1 ws ∷ word_at 2 ws ∷ word_at 3 ws ∷ []
-words_after-are words rest ws begins is =
-    let at : (n : ℕ) → word_at n (words_of rest) ≡ word_at (suc n) ws = λ n. ap (word_at n) is ∙ word_at-drop n ws in
-    ap (λ w. [] ∷ w ∷ words.second.now ∷ words.third.now ∷ []) (begins.first ∙ at 0)
-    ∙ ap (λ w. [] ∷ word_at 1 ws ∷ w ∷ words.third.now ∷ []) (begins.second ∙ at 1)
-    ∙ ap (λ w. [] ∷ word_at 1 ws ∷ word_at 2 ws ∷ w ∷ []) (begins.third ∙ at 2)
+words_after-are : (words : Words) (ws : List (List ℕ)) → AreFirst words ws → words_after words ≡ [] ∷ word_at 1 ws ∷ word_at 2 ws ∷ word_at 3 ws ∷ []
+words_after-are words ws are =
+    ap (λ w. [] ∷ w ∷ words.third.now ∷ words.fourth.now ∷ []) are.second
+    ∙ ap (λ w. [] ∷ word_at 1 ws ∷ w ∷ words.fourth.now ∷ []) are.third ∙ ap (λ w. [] ∷ word_at 1 ws ∷ word_at 2 ws ∷ w ∷ []) are.fourth
 
 shorter : (old new : Check) (bytes : List ℕ) → text_lines old.rest ≡ bytes ∷ text_lines new.rest → length (text_lines new.rest) < length (text_lines old.rest)
 shorter old new bytes lines = let one : length (text_lines old.rest) ≡ suc (length (text_lines new.rest)) = ap length lines in omega arith
@@ -89,13 +78,13 @@ ignored_more ds old new v follows = record {
 }
 
 -- a line that says something
-pub said_more : (ds : List Declaration) (old new : Check) (v w : Spelled) (said : Said) (words : Words) (i : Instruction) → Follows old (line.Said said) new → BeginsWith words said.rest.now → i ≡ instruction_said ds said.first (words_after words) → w ≡ after_line v said.first i → GoesOn ds old new v w
-said_more ds old new v w said words i follows begins is after =
+pub said_more : (ds : List Declaration) (old new : Check) (v w : Spelled) (said : Said) (i : Instruction) → Follows old (line.Said said) new → i ≡ instruction_said ds said.first (words_after said.words) → w ≡ after_line v said.first i → GoesOn ds old new v w
+said_more ds old new v w said i follows is after =
     let ws = words_of follows.bytes in
     let later = said_words (text_lines new.rest) in
     let is_said = follows.is_line.2 in
     let own : i ≡ instruction_said ds said.first ws =
-    is ∙ ap (instruction_said ds said.first) (words_after-are words said.rest.now ws begins is_said.1) ∙ instruction_said-words ds said.first ws in
+    is ∙ ap (instruction_said ds said.first) (words_after-are said.words ws is_said.1) ∙ instruction_said-words ds said.first ws in
     record {
       fault = sym follows.fault;
       shorter = shorter old new follows.bytes follows.lines;

@@ -50,6 +50,6 @@ after_line v first.While i = with_instruction v i (suc v.depth)
 after_line v first.If i = with_instruction v i (suc v.depth)
 after_line v f i = with_instruction v i v.depth
 
--- A line whose words after the first are these.
+-- A line whose words after the first are the later ones of these.
 abbrev pub words_after : Words → List (List ℕ)
-words_after after = [] ∷ after.first.now ∷ after.second.now ∷ after.third.now ∷ []
+words_after words = [] ∷ words.second.now ∷ words.third.now ∷ words.fourth.now ∷ []

@@ -13,37 +13,37 @@ use tm_lines::{
 };
 use tm_programs::{Comparison, Instruction, Operand};
 
-/// The instruction that a line says by its first word and the words after it.
-pub fn instruction(objects: &Objects, first: FirstWord, after: &Words) -> Instruction
-    ensures { result ≡ instruction_said objects.now.objects first (words_after after.now) }
+/// The instruction that a line says by its first word and its other words.
+pub fn instruction(objects: &Objects, first: FirstWord, words: &Words) -> Instruction
+    ensures { result ≡ instruction_said objects.now.objects first (words_after words.now) }
 {
     match first {
         FirstWord::Declares(_) => Instruction::End,
         FirstWord::Calls(opcode) => Instruction::Call {
-            object: objects.number(after.first),
+            object: objects.number(words.second),
             opcode,
-            operand: operand(opcode, after.second),
+            operand: operand(opcode, words.third),
         },
         FirstWord::Set => Instruction::Set {
-            register: register_or(after.first),
-            value: number_or(after.second),
+            register: register_or(words.second),
+            value: number_or(words.third),
         },
         FirstWord::Inc => Instruction::Inc {
-            register: register_or(after.first),
-            value: number_or(after.second),
+            register: register_or(words.second),
+            value: number_or(words.third),
         },
         FirstWord::Repeat => Instruction::Repeat {
-            turns: turns(after.first),
+            turns: turns(words.second),
         },
         FirstWord::While => Instruction::While {
-            register: register_or(after.first),
-            comparison: comparison_or(after.second),
-            value: number_or(after.third),
+            register: register_or(words.second),
+            comparison: comparison_or(words.third),
+            value: number_or(words.fourth),
         },
         FirstWord::If => Instruction::If {
-            register: register_or(after.first),
-            comparison: comparison_or(after.second),
-            value: number_or(after.third),
+            register: register_or(words.second),
+            comparison: comparison_or(words.third),
+            value: number_or(words.fourth),
         },
         FirstWord::End => Instruction::End,
     }

@@ -10,7 +10,7 @@ use crate::objects::{Objects, owns};
 use crate::programs::Programs;
 use crate::text_faults::TextFault;
 use std::alloc::Global;
-use tm_lines::{Checker, Fault, Line, MOST_BYTES, Words};
+use tm_lines::{Checker, Fault, Line, MOST_BYTES};
 use tm_programs::Instruction;
 
 /// The exercise of the text.
@@ -66,7 +66,7 @@ fn step(
     match checker.next_line() {
         Line::Ignored => Ok(()),
         Line::Said(said) => {
-            let instruction = instruction(objects, said.first, &Words::of_line(said.rest));
+            let instruction = instruction(objects, said.first, &said.words);
             programs.take(alloc, said.first, instruction)?;
             Ok(())
         }

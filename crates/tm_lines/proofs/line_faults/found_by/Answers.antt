@@ -1,39 +1,35 @@
-use Rattle.std.proofs.Common.{◌<◌, ◌+◌, drop, length, sym, ap, ◌∙◌, arith}
+use Rattle.std.proofs.Common.{◌≡◌, ◌<◌, ◌≤◌, ◌+◌, ◌∷◌, drop, length, sym, ap, ◌∙◌, arith}
+use Rattle.std.proofs.lemmas.List.{drop_all}
 use Rattle.tm_lines.specs.Found.{found_by, or_found}
-use Rattle.tm_lines.specs.Lines.{words_of}
-use Rattle.tm_lines.proofs.WordsLemmas.{found_by-more, found_by-no_words, or_found-nothing, words_of-length}
+use Rattle.tm_lines.proofs.WordsLemmas.{drop-first, found_by-more, found_by-no_words, or_found-nothing, slots_of-few}
 use Rattle.tm_lines.proofs.line_faults.found_by.Goals as goal
 
-pub returns-in-None-clause-found : goal.returns-in-None-clause-found
-returns-in-None-clause-found c =
+pub returns-then-words-i : goal.returns-then-words-i
+returns-then-words-i c = λ ws are.
     let p = c.args.place.now in
     let f = c.args.first in
     let k = c.args.kind in
-    let left = drop c.loop-i.i c.slots-slots.result.now in
+    let i = c.loop-i.i in
+    let left = drop i c.slots-slots.result.now in
+    let past : length ws ≤ i + 1 = omega (arith, are.count, c.if-words-i.true) in
     sym (or_found-nothing c.loop-i.found)
-    ∙ ap (or_found c.loop-i.found) (sym (ap (found_by p f k left) c.in-None.ensures ∙ found_by-no_words p f k left))
-    ∙ c.loop-i.invariant.found ∙ ap (λ ss. found_by p f k ss (words_of c.args.line.now)) c.slots-slots.ensures
+    ∙ ap (or_found c.loop-i.found) (sym (ap (found_by p f k left) (drop_all (i + 1) ws past) ∙ found_by-no_words p f k left))
+    ∙ c.loop-i.invariant ws are ∙ ap (λ ss. found_by p f k ss (drop 1 ws)) c.slots-slots.ensures
 
 pub loop-i-preserved : goal.loop-i-preserved
-loop-i-preserved c =
+loop-i-preserved c = λ ws are.
     let p = c.args.place.now in
     let f = c.args.first in
     let k = c.args.kind in
+    let i = c.loop-i.i in
     let ss = c.slots-slots.result.now in
     let found = c.loop-i.found in
-    let ws = words_of c.in-Some.next.now in
-    let within : c.loop-i.i < length ss = omega arith in
+    let word = c.at.result.now in
+    let within : i < length ss = omega arith in
+    let few : i + 1 < 4 = omega (arith, slots_of-few f, ap length c.slots-slots.ensures) in
+    let there : i + 1 < length ws = omega (arith, are.count, c.if-words-i.false) in
+    let cut : drop (i + 1) ws ≡ word ∷ drop (i + 1 + 1) ws = drop-first c.args.words.now ws (i + 1) word are c.at.ensures few there in
     let now = c.or-found.ensures ∙ ap (or_found found) c.found_in.ensures in
-    record {
-      found =
-          ap (λ x. or_found x (found_by p f k (drop (c.loop-i.i + 1) ss) ws)) now
-          ∙ found_by-more p f k found ss c.loop-i.i _ c.in-Some.word.now ws within
-          ∙ ap (λ xs. or_found found (found_by p f k (drop c.loop-i.i ss) xs)) (sym c.in-Some.ensures) ∙ c.loop-i.invariant.found;
-      words = omega (arith, c.loop-i.invariant.words, ap length c.in-Some.ensures);
-    }
-
-pub overflow_add-result : goal.overflow_add-result
-overflow_add-result c = omega (arith, words_of-length c.args.line.now)
-
-pub returns-clause-short : goal.returns-clause-short
-returns-clause-short c = omega (arith, words_of-length c.args.line.now)
+    ap (λ x. or_found x (found_by p f k (drop (i + 1) ss) (drop (i + 1 + 1) ws))) now
+    ∙ found_by-more p f k found ss i _ word (drop (i + 1 + 1) ws) within
+    ∙ ap (λ xs. or_found found (found_by p f k (drop i ss) xs)) (sym cut) ∙ c.loop-i.invariant ws are

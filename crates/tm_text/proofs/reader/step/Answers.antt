@@ -3,6 +3,4 @@ use Rattle.tm_text.proofs.reader.step.Goals as goal
 
 pub returns-in_ok-take-in-Said-clause-goes_on : goal.returns-in_ok-take-in-Said-clause-goes_on
 returns-in_ok-take-in-Said-clause-goes_on c =
-    let e = c.of_line.ensures in
-    said_more c.args.objects.now.objects c.args.checker.now c.next_line.new.self c.args.programs.now c.take.new.self c.in-Said.said c.of_line.result c.instruction-instruction.result c.in-Said.ensures
-    (record { first = e.first; second = e.second; third = e.third }) c.instruction-instruction.ensures c.in_ok-take-in-Said.ensures
+    said_more c.args.objects.now.objects c.args.checker.now c.next_line.new.self c.args.programs.now c.take.new.self c.in-Said.said c.instruction-instruction.result c.in-Said.ensures c.instruction-instruction.ensures c.in_ok-take-in-Said.ensures
