@@ -21,7 +21,7 @@ left_by k text n p texts numbers places =
     ∙ ap (λ m. first_fault_from (named_in (text_lines k.text)) m p (text_lines k.rest)) number
     ∙ ap (λ q. first_fault_from (named_in (text_lines k.text)) k.number q (text_lines k.rest)) (sym places)
 
-fault_of-line : (old new : Check) (bytes : List ℕ) (l : Line) → IsLine (named_in (text_lines old.text)) old.number old.place bytes l new.place → new.text ≡ old.text → new.number ≡ old.number + 1 → first_fault_from (named_in (text_lines old.text)) old.number old.place (bytes ∷ text_lines new.rest) ≡ fault_after l new
+fault_of-line : (old new : Check) (bytes : List ℕ) (l : Line) → IsLine (text_lines old.text) old.number old.place bytes l new.place → new.text ≡ old.text → new.number ≡ old.number + 1 → first_fault_from (named_in (text_lines old.text)) old.number old.place (bytes ∷ text_lines new.rest) ≡ fault_after l new
 fault_of-line old new bytes line.Ignored h text number =
     cond-true (is_ignored (words_of bytes)) _ _ h.0 ∙ left_by new old.text old.number old.place text number h.1
 fault_of-line old new bytes (line.Said said) h text number =
@@ -35,7 +35,7 @@ fault_of-line old new bytes (line.Faulty fault) h text number =
     ∙ ap (λ f. fault_or old.number f (first_fault_from named (suc old.number) (place_by old.place (words_of bytes)) (text_lines new.rest))) h.1
     ∙ ap (λ n. Some (record { line = n; kind = fault.kind })) (sym h.2)
 
-pub follows : (old new : Check) (bytes : List ℕ) (l : Line) → text_lines old.rest ≡ bytes ∷ text_lines new.rest → IsLine (named_in (text_lines old.text)) old.number old.place bytes l new.place → new.text ≡ old.text → new.number ≡ old.number + 1 → Follows old l new
+pub follows : (old new : Check) (bytes : List ℕ) (l : Line) → text_lines old.rest ≡ bytes ∷ text_lines new.rest → IsLine (text_lines old.text) old.number old.place bytes l new.place → new.text ≡ old.text → new.number ≡ old.number + 1 → Follows old l new
 follows old new bytes l lines is_line text number = record {
   bytes = bytes;
   lines = lines;

@@ -1,7 +1,7 @@
 mod ChecksLemmas
 mod FirstWordsLemmas
 mod LinesLemmas
-mod NamesLemmas
+pub mod NamesLemmas
 mod NumeralsLemmas
 mod PlacesLemmas
 mod SpellingsLemmas

@@ -1,6 +1,5 @@
 -- A text whose lines are looked at one after the other, and what each is.
 use Rattle.std.specs.Prelude.{◌≡◌, ℕ, ◌+◌, Bool, true, false, List, [], ◌∷◌, Option, Some, None}
-use Rattle.tm_base.specs.declared.kinds.Kind.{Kind}
 use Rattle.tm_lines.specs.declared.saying.Line.{Line}
 use Rattle.tm_lines.specs.declared.saying.Line.TheVariants as line
 use Rattle.tm_lines.specs.declared.faults.FaultyLine.{FaultyLine}
@@ -29,14 +28,15 @@ before text = record { text = text; number = 1; place = first_place; rest = text
 abbrev pub fault_left : Check → Option FaultyLine
 fault_left k = first_fault_from (named_in (text_lines k.text)) k.number k.place (text_lines k.rest)
 
--- What the line is that stands at this place and has this number: ignored; faulty; or one that says something,
--- after which comes another place.
-abbrev pub IsLine : (List ℕ → Option Kind) → ℕ → Place → List ℕ → Line → Place → Type 0
-IsLine named n p bytes line.Ignored after = (is_ignored (words_of bytes) ≡ true) × (after ≡ p)
-IsLine named n p bytes (line.Said said) after =
-    (is_ignored (words_of bytes) ≡ false) × (fault_of_line named p bytes ≡ None) × IsSaid said (words_of bytes) × (after ≡ place_by p (words_of bytes))
-IsLine named n p bytes (line.Faulty fault) after =
-    (is_ignored (words_of bytes) ≡ false) × (fault_of_line named p bytes ≡ Some fault.kind) × (fault.line ≡ n)
+-- What the line is that stands at this place and has this number, in a text of these lines: ignored; faulty; or
+-- one that says something, after which comes another place.
+abbrev pub IsLine : List (List ℕ) → ℕ → Place → List ℕ → Line → Place → Type 0
+IsLine lines n p bytes line.Ignored after = (is_ignored (words_of bytes) ≡ true) × (after ≡ p)
+IsLine lines n p bytes (line.Said said) after =
+    (is_ignored (words_of bytes) ≡ false) × (fault_of_line (named_in lines) p bytes ≡ None) × IsSaid lines said (words_of bytes)
+    × (after ≡ place_by p (words_of bytes))
+IsLine lines n p bytes (line.Faulty fault) after =
+    (is_ignored (words_of bytes) ≡ false) × (fault_of_line (named_in lines) p bytes ≡ Some fault.kind) × (fault.line ≡ n)
 
 -- The first fault of those that were left: that of the line, where it has one, and else the first of those that
 -- are left after it.
@@ -48,7 +48,7 @@ fault_after other k = fault_left k
 pub record Follows (old : Check) (line : Line) (new : Check) : Type 0 where
   pub bytes : List ℕ
   pub lines : text_lines old.rest ≡ bytes ∷ text_lines new.rest
-  pub is_line : IsLine (named_in (text_lines old.text)) old.number old.place bytes line new.place
+  pub is_line : IsLine (text_lines old.text) old.number old.place bytes line new.place
   pub text : new.text ≡ old.text
   pub number : new.number ≡ old.number + 1
   pub fault : fault_left old ≡ fault_after line new

@@ -4,6 +4,7 @@ pub mod FirstWords
 pub mod NamedLines
 pub mod LineFaults
 pub mod TextFaults
+pub mod KnownNames
 pub mod Places
 pub mod Found
 pub mod Saying

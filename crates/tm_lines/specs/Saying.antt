@@ -5,6 +5,7 @@ use Rattle.tm_lines.specs.declared.first_words.FirstWord.{FirstWord}
 use Rattle.tm_lines.specs.declared.saying.Said.{Said}
 use Rattle.tm_lines.specs.declared.words.Words.{Words}
 use Rattle.tm_lines.specs.FirstWords.{first_word_of}
+use Rattle.tm_lines.specs.KnownNames.{known_in, number_known}
 use Rattle.tm_lines.specs.LineFaults.{Place, is_beyond, opens}
 use Rattle.tm_lines.specs.NamedLines.{word_at}
 
@@ -16,9 +17,11 @@ pub record AreFirst (words : Words) (ws : List (List ℕ)) : Type 0 where
   pub fourth : words.fourth.now ≡ word_at 3 ws
   pub count : words.count ≡ length ws
 
--- The words begin with this first word, spelled.
-abbrev pub IsSaid : Said → List (List ℕ) → Type 0
-IsSaid said ws = (first_word_of (word_at 0 ws) ≡ Some said.first) × AreFirst said.words ws
+-- The words begin with this first word, spelled, and the second names this object by these lines.
+pub record IsSaid (lines : List (List ℕ)) (said : Said) (ws : List (List ℕ)) : Type 0 where
+  pub first : first_word_of (word_at 0 ws) ≡ Some said.first
+  pub words : AreFirst said.words ws
+  pub object : said.object ≡ number_known (known_in lines (word_at 1 ws))
 
 -- There may be one more block, object, thread or instruction, where a line with this first word makes one.
 pub record HasRoom (p : Place) (f : FirstWord) : Type 0 where

@@ -1,4 +1,4 @@
-ghost use Rattle.std.specs.Prelude.{◌≡◌, false, true, IfOk};
+ghost use Rattle.std.specs.Prelude.{◌≡◌, ◌≤◌, false, true, length, IfOk};
 ghost use Rattle.tm_lines.specs.Checks.{Follows, before, fault_left, is_empty};
 ghost use Rattle.tm_lines.specs.TextFaults.{first_fault};
 
@@ -35,6 +35,7 @@ impl<'a> Model for Checker<'a> {
 impl<'a> Checker<'a> {
     /// Before the first line of the text, whose names are noted. Only this takes memory.
     pub fn of_text(alloc: Global, text: &'a [u8]) -> Result<Checker<'a>, NoMemory>
+        requires { length text.now ≤ MOST_BYTES }
         ensures { IfOk result (λ checker. checker ≡ before text.now) }
     {
         let names = Names::of_text(alloc, text)?;

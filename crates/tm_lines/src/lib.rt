@@ -28,7 +28,7 @@ pub use limits::{
 };
 pub use line_faults::fault_of_line;
 pub use lines::{first_line, first_word, is_ignored, is_printed, without_cr};
-pub use names::{Names, declared_kind, is_new_name};
+pub use names::{Known, Names, declared_kind, is_new_name};
 pub use numerals::{begins_with_r, comparison, number, register};
 pub use places::{OpenBlock, Place};
 pub use saying::{Line, Said};

@@ -1,7 +1,8 @@
-ghost use Rattle.std.specs.Prelude.{◌≡◌, ℕ, ◌&&◌, false, drop, length, nat_le, List, Some, None, IfNone, MatchResult};
+ghost use Rattle.std.specs.Prelude.{◌≡◌, ℕ, ◌&&◌, false, drop, length, nat_le, List, Some, None, option_map, IfNone, MatchResult};
 ghost use Rattle.std.specs.List.{find};
 ghost use Rattle.tm_lines.specs.FirstWords.{first_word_of, slots_of};
 ghost use Rattle.tm_lines.specs.Found.{applies_by, block_fault, found_by, name_fault};
+ghost use Rattle.tm_lines.specs.KnownNames.{known_in, number_known};
 ghost use Rattle.tm_lines.specs.LineFaults.{fault_of_line, fault_of_words, is_beyond, opens, place_by, word_faults};
 ghost use Rattle.tm_lines.specs.Lines.{words_of};
 ghost use Rattle.tm_lines.specs.NamedLines.{word_at};
@@ -13,7 +14,7 @@ use crate::faults::{Fault, FaultyLine};
 use crate::first_words::FirstWord;
 use crate::found::Found;
 use crate::lines::is_printed;
-use crate::names::Names;
+use crate::names::{Known, Names};
 use crate::places::Place;
 use crate::saying::{Line, Said};
 use crate::slots::found_in;
@@ -33,40 +34,69 @@ pub fn fault_of_line(names: &Names, place: &Place, line: &[u8]) -> Option<Fault>
 impl<'a> Place<'a> {
     /// Takes the line with this number, and goes on to the place after it, unless it has a fault.
     pub fn take(&mut self, names: &Names, number: u64, line: &'a [u8]) -> Line<'a>
-        ensures { IsLine (named_in (text_lines names.now)) number self.old line.now result self.new }
+        ensures { IsLine (text_lines names.now) number self.old line.now result self.new }
     {
         let words = Words::of_line(line);
         if words.are_ignored() {
             return Line::Ignored;
         }
         match judge(names, self, line, &words) {
-            Ok(first) => {
+            Ok((first, object)) => {
                 self.go_on(first, words.second);
-                Line::Said(Said { first, words })
+                Line::Said(Said {
+                    first,
+                    words,
+                    object,
+                })
             }
             Err(kind) => Line::Faulty(FaultyLine { line: number, kind }),
         }
     }
 }
 
-/// The first word of the line with these words, or what is wrong with the line.
-fn judge(names: &Names, place: &Place, line: &[u8], words: &Words) -> Result<FirstWord, Fault>
+/// The first word of the line with these words, and the number of the object that it names, or 0 where it names
+/// none; or what is wrong with the line.
+fn judge(
+    names: &Names,
+    place: &Place,
+    line: &[u8],
+    words: &Words,
+) -> Result<(FirstWord, u32), Fault>
     requires words { AreFirst words.now (words_of line.now) }
     ensures said { MatchResult result
-        (λ first. (fault_of_line (named_in (text_lines names.now)) place.now line.now ≡ None)
-        × (first_word_of (word_at 0 (words_of line.now)) ≡ Some first))
+        (λ said. (fault_of_line (named_in (text_lines names.now)) place.now line.now ≡ None)
+        × (first_word_of (word_at 0 (words_of line.now)) ≡ Some said.0)
+        × (said.1 ≡ number_known (known_in (text_lines names.now) (word_at 1 (words_of line.now)))))
         (λ fault. fault_of_line (named_in (text_lines names.now)) place.now line.now ≡ Some fault) }
-    ensures room { MatchResult result (λ first. HasRoom place.now first) (λ _. Unit {0}) }
+    ensures room { MatchResult result (λ said. HasRoom place.now said.0) (λ _. Unit {0}) }
 {
     if !is_printed(line) {
         return Err(Fault::Byte);
     }
-    match FirstWord::of_word(words.first) {
-        None => Err(Fault::Word),
-        Some(first) => match fault_of_words(place, first, names.kind(words.second), words) {
-            None => Ok(first),
-            Some(fault) => Err(fault),
-        },
+    let Some(first) = FirstWord::of_word(words.first) else {
+        return Err(Fault::Word);
+    };
+    let known = names.known(words.second);
+    match fault_of_words(place, first, kind_of(known), words) {
+        None => Ok((first, number_of(known))),
+        Some(fault) => Err(fault),
+    }
+}
+
+/// The kind of an object of which this is known.
+fn kind_of(known: Option<Known>) -> Option<Kind>
+    ensures { result ≡ option_map (λ known. known.kind) known }
+{
+    known.map(|known| known.kind)
+}
+
+/// The number of an object of which this is known, or 0 where there is none.
+fn number_of(known: Option<Known>) -> u32
+    ensures { result ≡ number_known known }
+{
+    match known {
+        None => 0,
+        Some(known) => known.number,
     }
 }
 

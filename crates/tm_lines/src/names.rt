@@ -1,59 +1,71 @@
-ghost use Rattle.std.specs.Prelude.{◌≡◌, ℕ, pos, ◌^◌, ◌<ℤ◌, ◌≤ℤ◌, ◌∷◌, ◌&&◌, not, codes, true, false, List, Some, option_map, IfOk, OnOk, MatchOption};
+ghost use Rattle.std.specs.Prelude.{◌≡◌, ℕ, ◌+◌, pos, ◌^◌, ◌≤◌, ◌<◌, ◌<ℤ◌, ◌≤ℤ◌, ◌∷◌, List, Some, length, option_map, IfOk, OnOk};
 ghost use Rattle.std.specs.HashMap as hash;
 ghost use Rattle.std.specs.Option.{option_or};
 ghost use Rattle.std.specs.Str.{bytes_eq};
-ghost use Rattle.tm_base.specs.Names.{is_name};
 ghost use Rattle.tm_lines.specs.FirstWords.{first_word_of};
+ghost use Rattle.tm_lines.specs.KnownNames.{is_new, known_by, known_in};
 ghost use Rattle.tm_lines.specs.Lines.{words_of};
-ghost use Rattle.tm_lines.specs.NamedLines.{conditions_said, declarator_of, declares_well, kind_named, kind_by, kind_said, monitor_by, natural_or, word_at};
+ghost use Rattle.tm_lines.specs.NamedLines.{conditions_said, declarator_of, kind_by, monitor_by, natural_or, word_at};
 ghost use Rattle.tm_lines.specs.TextFaults.{named_in, said_words, text_lines};
 
-use crate::first_words::{Declarator, FirstWord};
+use crate::first_words::Declarator;
 use crate::limits::{
-    GREATEST_NUMBER, LEAST_NUMBER, MOST_CAPACITY, MOST_CONDITIONS, MOST_PARTIES, MOST_START,
+    GREATEST_NUMBER, LEAST_NUMBER, MOST_BYTES, MOST_CAPACITY, MOST_CONDITIONS, MOST_PARTIES,
+    MOST_START,
 };
-use crate::lines::{first_line, without_cr};
+use crate::lines::{first_line, first_word, without_cr};
 use crate::numerals::number;
-use crate::words::{Words, next_word};
+use crate::words::Words;
 use std::alloc::Global;
 use std::collections::HashMap;
 use std::marker::Model;
 use tm_base::{Kind, Name, NoMemory};
 
+/// What is known of a name: the kind of its object, and the object's number, from 0. The number of a thread is
+/// left out of the kind.
+#[derive(Clone, Copy, Debug)]
+pub struct Known {
+    pub kind: Kind,
+    pub number: u32,
+}
+
 /// What the names of a text are, by all its lines.
 #[derive(Drop)]
 pub struct Names<'a> {
     text: &'a [u8],
-    kinds: HashMap<&'a [u8], Kind>,
+    known: HashMap<&'a [u8], Known>,
 }
 
 impl<'a> Model for Names<'a> {
     ghost use Rattle.std.specs.Prelude.{◌≡◌, ℕ, List};
     ghost use Rattle.std.specs.HashMap as hash;
     ghost use Rattle.std.specs.Str.{bytes_eq};
-    ghost use Rattle.tm_lines.specs.TextFaults.{named_in, text_lines};
+    ghost use Rattle.tm_lines.specs.KnownNames.{known_in};
+    ghost use Rattle.tm_lines.specs.TextFaults.{text_lines};
 
     ghost Value = { List ℕ };
 
     ghost view = { λ a. a.text.now };
 
     ghost invariant = { λ a. (name : List ℕ) →
-        hash.get_by (λ k. bytes_eq name k.now) a.kinds ≡ named_in (text_lines a.text.now) name };
+        hash.get_by (λ k. bytes_eq name k.now) a.known ≡ known_in (text_lines a.text.now) name };
 }
 
 impl<'a> Names<'a> {
     /// The names of the text.
     pub fn of_text(alloc: Global, text: &'a [u8]) -> Result<Names<'a>, NoMemory>
+        requires { length text.now ≤ MOST_BYTES }
         ensures { IfOk result (λ names. names ≡ text.now) }
     {
-        let mut kinds = HashMap::new(alloc);
+        let mut known = HashMap::new(alloc);
+        let mut number = 0u32;
         let mut rest = text;
         while !rest.is_empty() {
             let (line, next) = first_line(rest);
-            declare(&mut kinds, without_cr(line))?;
+            number = note(&mut known, number, without_cr(line))?;
             rest = next;
         }
-        Ok(Names { text, kinds })
+        Ok(Names { text, known })
     }
 
     /// The text.
@@ -63,62 +75,78 @@ impl<'a> Names<'a> {
         self.text
     }
 
-    /// The kind of the object with this name. `None` exactly where the text has no such name.
-    pub fn kind(&self, name: &[u8]) -> Option<Kind>
-        ensures { result ≡ named_in (text_lines self.now) name.now }
+    /// What is known of the name. `None` exactly where the text has no such name.
+    pub fn known(&self, name: &[u8]) -> Option<Known>
+        ensures known { result ≡ known_in (text_lines self.now) name.now }
+        ensures kind { option_map (λ known. known.kind) result ≡ named_in (text_lines self.now) name.now }
     {
         // Many lines name nothing, so that isn't looked for.
         if name.is_empty() {
             return None;
         }
-        self.kinds.get(name).copied()
+        self.known.get(name).copied()
     }
 }
 
-/// Notes the name that the line declares, unless an earlier line did.
-fn declare<'a>(kinds: &mut HashMap<&'a [u8], Kind>, line: &'a [u8]) -> Result<(), NoMemory>
+/// What the line declares by its first word, where it declares an object.
+fn declarator(line: &[u8]) -> Option<Declarator>
+    ensures { result ≡ declarator_of (first_word_of (word_at 0 (words_of line.now))) }
+{
+    match first_word(line) {
+        None => None,
+        Some((word, _)) => Declarator::of_word(word),
+    }
+}
+
+/// Notes the name of the object that the line declares, where it declares one. So many stand before the line, and
+/// this many after it.
+fn note<'a>(
+    known: &mut HashMap<&'a [u8], Known>,
+    number: u32,
+    line: &'a [u8],
+) -> Result<u32, NoMemory>
+    requires { number < MOST_BYTES }
+    ensures next { IfOk result (λ next. next ≤ number + 1) }
+    ensures known { IfOk result (λ next. (lines : List (List ℕ)) (name : List ℕ) →
+        option_or (hash.get_by (λ k. bytes_eq name k.now) known.new) (known_by next (said_words lines) name)
+        ≡ option_or (hash.get_by (λ k. bytes_eq name k.now) known.old)
+        (known_by number (said_words (line.now ∷ lines)) name)) }
+{
+    let Some(declarator) = declarator(line) else {
+        return Ok(number);
+    };
+    declare(known, number, declarator, line)?;
+    Ok(number + 1)
+}
+
+/// Notes the name that the line declares, unless an earlier line did. So many objects stand before it.
+fn declare<'a>(
+    known: &mut HashMap<&'a [u8], Known>,
+    number: u32,
+    declarator: Declarator,
+    line: &'a [u8],
+) -> Result<(), NoMemory>
+    requires { declarator_of (first_word_of (word_at 0 (words_of line.now))) ≡ Some declarator }
     ensures { OnOk result ((lines : List (List ℕ)) (name : List ℕ) →
-        option_or (hash.get_by (λ k. bytes_eq name k.now) kinds.new) (kind_named (said_words lines) name)
-        ≡ option_or (hash.get_by (λ k. bytes_eq name k.now) kinds.old)
-        (kind_named (said_words (line.now ∷ lines)) name)) }
+        option_or (hash.get_by (λ k. bytes_eq name k.now) known.new) (known_by (number + 1) (said_words lines) name)
+        ≡ option_or (hash.get_by (λ k. bytes_eq name k.now) known.old)
+        (known_by number (said_words (line.now ∷ lines)) name)) }
 {
-    match declaration(line) {
-        None => Ok(()),
-        Some(said) => {
-            if !kinds.contains_key(said.0) {
-                kinds.insert(said.0, said.1)?;
-            }
-            Ok(())
-        }
+    let words = Words::of_line(line);
+    if !is_new_name(words.second) {
+        return Ok(());
     }
-}
-
-/// The name that the line declares well, and its kind.
-fn declaration(line: &[u8]) -> Option<(&[u8], Kind)>
-    ensures { MatchOption result (declares_well (words_of line.now) ≡ false)
-        (λ said. (declares_well (words_of line.now) ≡ true) × (said.0.now ≡ word_at 1 (words_of line.now))
-        × (Some said.1 ≡ option_map (λ d. kind_said 0 d (words_of line.now))
-        (declarator_of (first_word_of (word_at 0 (words_of line.now)))))) }
-{
-    let (word, _) = next_word(line);
-    match FirstWord::of_word(word) {
-        Some(FirstWord::Declares(declarator)) => {
-            let words = Words::of_line(line);
-            if !is_new_name(words.second) {
-                return None;
-            }
-            Some((
-                words.second,
-                declared_kind(0, declarator, words.third, words.fourth),
-            ))
-        }
-        _ => None,
+    if known.contains_key(words.second) {
+        return Ok(());
     }
+    let kind = declared_kind(0, declarator, words.third, words.fourth);
+    known.insert(words.second, Known { kind, number })?;
+    Ok(())
 }
 
 /// Whether an object can be named so.
 pub fn is_new_name(name: &[u8]) -> bool
-    ensures { result ≡ (is_name name.now && not (bytes_eq name.now (codes "main"))) }
+    ensures { result ≡ is_new name.now }
 {
     Name::make(name).is_some() && name != b"main".as_slice()
 }

@@ -65,7 +65,7 @@ begins_with : (named : List ℕ → Option Kind) (p : Place) (ws : List (List �
 begins_with named p ws None e h = absurd (cc)
 begins_with named p ws (Some f) e h = record { first = f; is_first = e; fine = fine p f (named (word_at 1 ws)) ws h }
 
-begins : (named : List ℕ → Option Kind) (p : Place) (line : List ℕ) → fault_of_line named p line ≡ None → Begins named p (words_of line)
+pub begins : (named : List ℕ → Option Kind) (p : Place) (line : List ℕ) → fault_of_line named p line ≡ None → Begins named p (words_of line)
 begins named p line h =
     cond_both (list_all is_printed line) (fault_of_words p (named (word_at 1 (words_of line))) (words_of line) (first_word_of (word_at 0 (words_of line)))) (Some fault.Byte)
     (λ r. r ≡ None → Begins named p (words_of line))

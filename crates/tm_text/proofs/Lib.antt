@@ -2,6 +2,7 @@ pub mod ProgramsLemmas
 pub mod Owns
 mod Faultless
 mod SaidValues
+mod SaidKnown
 mod SaidNames
 mod SaidObjects
 mod SaidCalls

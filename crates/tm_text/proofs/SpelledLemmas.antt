@@ -1,5 +1,5 @@
 -- The programs that lines spell, one line more.
-use Rattle.std.proofs.Common.{◌≡◌, ℕ, zero, suc, ◌<◌, not, List, [], ◌∷◌, ◌++◌, length, Some, refl, sym, ap, ◌∙◌, arith}
+use Rattle.std.proofs.Common.{◌≡◌, ℕ, zero, suc, ◌<◌, not, List, [], ◌∷◌, ◌++◌, length, Some, refl, sym, ap, ◌∙◌, subst, arith}
 use Rattle.std.proofs.lemmas.Bool.{cond-true, cond-false}
 use Rattle.std.proofs.lemmas.List.{append_assoc, append-nil}
 use Rattle.tm_programs.specs.declared.instructions.Instruction.{Instruction}
@@ -15,9 +15,11 @@ use Rattle.tm_lines.specs.NamedLines.{word_at}
 use Rattle.tm_lines.specs.Saying.{AreFirst}
 use Rattle.tm_lines.specs.TextFaults.{said_words, text_lines}
 use Rattle.tm_text.specs.declared.exercises.Declaration.{Declaration}
-use Rattle.tm_text.specs.SpelledPrograms.{Spelled, after_end, after_line, put_begun, with_said, words_after}
+use Rattle.tm_text.specs.Objects.{Declared, IsDeclarable, TakesLine, declarations_of, with_lines}
+use Rattle.tm_text.specs.SpelledPrograms.{NamesObject, Spelled, after_end, after_line, put_begun, with_said, words_after}
 use Rattle.tm_text.specs.Readings.{GoesOn}
 use Rattle.tm_text.specs.Texts.{instruction_said, programs_by, programs_said, put_instruction}
+use Rattle.tm_text.proofs.SaidKnown.{names_object}
 
 put_begun-one : (begun : List Instruction) (i : Instruction) (ps : List (List Instruction)) → put_begun (begun ++ i ∷ []) ps ≡ put_begun begun (put_instruction i ps)
 put_begun-one begun i [] = refl
@@ -68,30 +70,38 @@ shorter : (old new : Check) (bytes : List ℕ) → text_lines old.rest ≡ bytes
 shorter old new bytes lines = let one : length (text_lines old.rest) ≡ suc (length (text_lines new.rest)) = ap length lines in omega arith
 
 -- a line that is ignored
-pub ignored_more : (ds : List Declaration) (old new : Check) (v : Spelled) → Follows old line.Ignored new → GoesOn ds old new v v
-ignored_more ds old new v follows = record {
-  fault = sym follows.fault;
-  shorter = shorter old new follows.bytes follows.lines;
-  programs =
-      ap (with_said ds v) (sym (cond-false (not (is_ignored (words_of follows.bytes))) (words_of follows.bytes ∷ said_words (text_lines new.rest)) (said_words (text_lines new.rest)) (ap not follows.is_line.0)))
-      ∙ ap (λ ls. with_said ds v (said_words ls)) (sym follows.lines);
-}
+pub ignored_more : (old new : Check) (a : Declared) (v : Spelled) → Follows old line.Ignored new → GoesOn old new a a v v
+ignored_more old new a v follows =
+    let same : said_words (text_lines new.rest) ≡ said_words (text_lines old.rest) =
+    sym (cond-false (not (is_ignored (words_of follows.bytes))) (words_of follows.bytes ∷ said_words (text_lines new.rest)) (said_words (text_lines new.rest)) (ap not follows.is_line.0))
+    ∙ ap said_words (sym follows.lines) in
+    record {
+      fault = sym follows.fault;
+      text = follows.text;
+      shorter = shorter old new follows.bytes follows.lines;
+      objects = λ declarable. ap (with_lines a) same;
+      programs = ap (with_said (declarations_of old.text) v) same;
+    }
 
 -- a line that says something
-pub said_more : (ds : List Declaration) (old new : Check) (v w : Spelled) (said : Said) (i : Instruction) → Follows old (line.Said said) new → i ≡ instruction_said ds said.first (words_after said.words) → w ≡ after_line v said.first i → GoesOn ds old new v w
-said_more ds old new v w said i follows is after =
+pub said_more : (old new : Check) (a b : Declared) (v w : Spelled) (said : Said) (i : Instruction) → Follows old (line.Said said) new → TakesLine a said.first said.words b → ((ds : List Declaration) → NamesObject ds said said.first → i ≡ instruction_said ds said.first (words_after said.words)) → w ≡ after_line v said.first i → GoesOn old new a b v w
+said_more old new a b v w said i follows takes is after =
+    let ds = declarations_of old.text in
     let ws = words_of follows.bytes in
     let later = said_words (text_lines new.rest) in
     let is_said = follows.is_line.2 in
+    let left : said_words (text_lines old.rest) ≡ ws ∷ later = ap said_words follows.lines ∙ cond-true (not (is_ignored ws)) (ws ∷ later) later (ap not follows.is_line.0) in
     let own : i ≡ instruction_said ds said.first ws =
-    is ∙ ap (instruction_said ds said.first) (words_after-are said.words ws is_said.1) ∙ instruction_said-words ds said.first ws in
+    is ds (names_object (text_lines old.text) old.place follows.bytes said follows.is_line.1 is_said)
+    ∙ ap (instruction_said ds said.first) (words_after-are said.words ws is_said.words) ∙ instruction_said-words ds said.first ws in
     record {
       fault = sym follows.fault;
+      text = follows.text;
       shorter = shorter old new follows.bytes follows.lines;
+      objects = λ declarable. takes ws later is_said.first is_said.words (subst (λ ls. IsDeclarable (with_lines a ls)) left declarable) ∙ ap (with_lines a) (sym left);
       programs =
           ap (λ x. with_said ds x later) after ∙ ap (λ j. with_said ds (after_line v said.first j) later) own
           ∙ line_more ds v said.first ws later
-          ∙ sym (ap (λ o. v.ended ++ put_begun v.begun (programs_by ds o v.depth ws (λ d. programs_said ds d later))) is_said.0)
-          ∙ ap (with_said ds v) (sym (cond-true (not (is_ignored ws)) (ws ∷ later) later (ap not follows.is_line.0)))
-          ∙ ap (λ ls. with_said ds v (said_words ls)) (sym follows.lines);
+          ∙ sym (ap (λ o. v.ended ++ put_begun v.begun (programs_by ds o v.depth ws (λ d. programs_said ds d later))) is_said.first)
+          ∙ ap (with_said ds v) (sym left);
     }

@@ -1,15 +1,15 @@
 -- The objects of a text as its lines declare them, and the numbers of threads' own objects.
-use Rattle.std.specs.Prelude.{◌≡◌, ℕ, ◌+◌, ◌<◌, ◌≤◌, if◌then◌else◌, List, [], ◌∷◌, ◌++◌, length, slice_get, Option, Some, None}
-use Rattle.std.specs.Str.{bytes_eq}
+use Rattle.std.specs.Prelude.{◌≡◌, ℕ, ◌+◌, ◌≤◌, List, [], ◌∷◌, ◌++◌, length, slice_get, Some}
 use Rattle.tm_base.specs.declared.kinds.Kind.{Kind}
 use Rattle.tm_base.specs.declared.kinds.Kind.TheVariants as kind
 use Rattle.tm_base.specs.Names.{IsName}
 use Rattle.tm_lines.specs.declared.first_words.Declarator.{Declarator}
+use Rattle.tm_lines.specs.declared.first_words.FirstWord.{FirstWord}
 use Rattle.tm_lines.specs.declared.limits.TheConstants.{MOST_OBJECTS}
 use Rattle.tm_lines.specs.declared.words.Words.{Words}
 use Rattle.tm_lines.specs.FirstWords.{first_word_of}
-use Rattle.tm_lines.specs.Lines.{words_of}
-use Rattle.tm_lines.specs.NamedLines.{declarator_of, kind_by, word_at}
+use Rattle.tm_lines.specs.NamedLines.{kind_by, word_at}
+use Rattle.tm_lines.specs.Saying.{AreFirst}
 use Rattle.tm_lines.specs.TextFaults.{said_words, text_lines}
 use Rattle.tm_text.specs.declared.exercises.Declaration.{Declaration}
 use Rattle.tm_text.specs.Texts.{declarations_said}
@@ -19,9 +19,17 @@ pub record Declared : Type 0 where
   pub objects : List Declaration
   pub thread : ℕ
 
+-- No objects.
+abbrev pub no_objects : Declared
+no_objects = record { objects = []; thread = 1 }
+
 -- The objects with those that the lines declare which are left.
-abbrev pub with_lines : Declared → List (List ℕ) → List Declaration
-with_lines v lines = v.objects ++ declarations_said v.thread (said_words lines)
+abbrev pub with_lines : Declared → List (List (List ℕ)) → List Declaration
+with_lines v lines = v.objects ++ declarations_said v.thread lines
+
+-- The objects that the lines of a text declare.
+abbrev pub declarations_of : List ℕ → List Declaration
+declarations_of text = declarations_said 1 (said_words (text_lines text))
 
 -- Each object has a name, and there are no more than there may be.
 pub record IsDeclarable (ds : List Declaration) : Type 0 where
@@ -30,19 +38,14 @@ pub record IsDeclarable (ds : List Declaration) : Type 0 where
 
 -- The objects are those of the text, if they can be declared.
 abbrev pub Declares : List ℕ → Declared → Type 0
-Declares text v =
-    IsDeclarable (declarations_said 1 (said_words (text_lines text)))
-    → v.objects ≡ declarations_said 1 (said_words (text_lines text))
+Declares text v = IsDeclarable (declarations_of text) → v.objects ≡ declarations_of text
 
--- No line of the text declares an object.
-abbrev pub DeclaresNothing : List ℕ → Type 0
-DeclaresNothing text = (v : Declared) → with_lines v (text_lines text) ≡ v.objects
-
--- This line of the text is the next that declares an object, and these bytes follow it.
-pub record DeclaresNext (text : List ℕ) (d : Declarator) (line rest : List ℕ) : Type 0 where
-  pub first : declarator_of (first_word_of (word_at 0 (words_of line))) ≡ Some d
-  pub lines : (v : Declared) → with_lines v (text_lines text) ≡ with_lines v (line ∷ text_lines rest)
-  pub shorter : length rest < length text
+-- After a line of these words, which begins with this first word, the objects are these, if those of the text can
+-- be declared.
+abbrev pub TakesLine : Declared → FirstWord → Words → Declared → Type 0
+TakesLine v first words w =
+    (ws : List (List ℕ)) (lines : List (List (List ℕ))) → first_word_of (word_at 0 ws) ≡ Some first → AreFirst words ws
+    → IsDeclarable (with_lines v (ws ∷ lines)) → with_lines w lines ≡ with_lines v (ws ∷ lines)
 
 -- The object that a line of these words declares. A thread has this number.
 abbrev pub object_by : ℕ → Declarator → Words → Declaration
@@ -51,10 +54,6 @@ object_by t d words = record { name = words.second.now; kind = kind_by t d words
 -- One object more, after which the next thread has this number.
 abbrev pub with_object : Declared → Declaration → ℕ → Declared
 with_object v d t = record { objects = v.objects ++ d ∷ []; thread = t }
-
--- The number of the one object, if it has the name.
-abbrev pub one_number : ℕ → List ℕ → List ℕ → Option ℕ
-one_number o declared name = if bytes_eq declared name then Some o else None
 
 -- The numbers with this object's in front, where it is a thread's own object.
 abbrev pub owns_of_kind : ℕ → Kind → List ℕ → List ℕ

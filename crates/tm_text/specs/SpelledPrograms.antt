@@ -1,12 +1,13 @@
 -- The programs of a text as its lines spell them.
-use Rattle.std.specs.Prelude.{ℕ, zero, suc, List, [], ◌∷◌, ◌++◌}
+use Rattle.std.specs.Prelude.{◌≡◌, ℕ, zero, suc, List, [], ◌∷◌, ◌++◌}
 use Rattle.tm_programs.specs.declared.instructions.Instruction.{Instruction}
 use Rattle.tm_programs.specs.declared.instructions.Instruction.TheVariants as instruction
 use Rattle.tm_lines.specs.declared.first_words.FirstWord.{FirstWord}
 use Rattle.tm_lines.specs.declared.first_words.FirstWord.TheVariants as first
+use Rattle.tm_lines.specs.declared.saying.Said.{Said}
 use Rattle.tm_lines.specs.declared.words.Words.{Words}
 use Rattle.tm_text.specs.declared.exercises.Declaration.{Declaration}
-use Rattle.tm_text.specs.Texts.{programs_said}
+use Rattle.tm_text.specs.Texts.{number_named, programs_said}
 
 -- The programs of the threads that were ended, and that of the next one as far as it was spelled, in which so
 -- many blocks are open.
@@ -53,3 +54,8 @@ after_line v f i = with_instruction v i v.depth
 -- A line whose words after the first are the later ones of these.
 abbrev pub words_after : Words → List (List ℕ)
 words_after words = [] ∷ words.second.now ∷ words.third.now ∷ words.fourth.now ∷ []
+
+-- The object is the one that the second word names, where a line with this first word calls it.
+abbrev pub NamesObject : List Declaration → Said → FirstWord → Type 0
+NamesObject ds said (first.Calls c) = said.object ≡ number_named ds said.words.second.now
+NamesObject ds said f = Unit {0}

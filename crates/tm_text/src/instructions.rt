@@ -1,26 +1,28 @@
-ghost use Rattle.std.specs.Prelude.{◌≡◌, pos};
+ghost use Rattle.std.specs.Prelude.{◌≡◌, pos, List};
 ghost use Rattle.tm_lines.specs.declared.first_words.Slot.TheVariants.{Value};
 ghost use Rattle.tm_lines.specs.FirstWords.{operand_slots};
 ghost use Rattle.tm_lines.specs.NamedLines.{natural_or};
-ghost use Rattle.tm_text.specs.SpelledPrograms.{words_after};
+ghost use Rattle.tm_text.specs.declared.exercises.Declaration.{Declaration};
+ghost use Rattle.tm_text.specs.SpelledPrograms.{NamesObject, words_after};
 ghost use Rattle.tm_text.specs.Texts.{comparison_said, instruction_said, number_said, operand_by, operand_said, register_said};
 
-use crate::objects::Objects;
 use tm_base::Opcode;
 use tm_lines::{
-    FirstWord, GREATEST_NUMBER, LEAST_NUMBER, MOST_TURNS, Slot, Words, begins_with_r, comparison,
+    FirstWord, GREATEST_NUMBER, LEAST_NUMBER, MOST_TURNS, Said, Slot, begins_with_r, comparison,
     number, register,
 };
 use tm_programs::{Comparison, Instruction, Operand};
 
-/// The instruction that a line says by its first word and its other words.
-pub fn instruction(objects: &Objects, first: FirstWord, words: &Words) -> Instruction
-    ensures { result ≡ instruction_said objects.now.objects first (words_after words.now) }
+/// The instruction that a line says.
+pub fn instruction(said: &Said) -> Instruction
+    ensures { (ds : List Declaration) → NamesObject ds said.now said.now.first
+        → result ≡ instruction_said ds said.now.first (words_after said.now.words) }
 {
-    match first {
+    let words = &said.words;
+    match said.first {
         FirstWord::Declares(_) => Instruction::End,
         FirstWord::Calls(opcode) => Instruction::Call {
-            object: objects.number(words.second),
+            object: said.object,
             opcode,
             operand: operand(opcode, words.third),
         },

@@ -1,6 +1,6 @@
-ghost use Rattle.std.specs.Prelude.{◌≡◌, false, IfErr, IfOk, OnOk, map};
+ghost use Rattle.std.specs.Prelude.{◌≡◌, ◌≤◌, false, length, IfErr, IfOk, OnOk, map};
 ghost use Rattle.tm_lines.specs.Checks.{before, fault_left, is_empty};
-ghost use Rattle.tm_lines.specs.TextFaults.{first_fault, said_words, text_lines};
+ghost use Rattle.tm_lines.specs.TextFaults.{first_fault};
 ghost use Rattle.tm_text.specs.Readings.{GoesOn, IsWhole, Refuses};
 ghost use Rattle.tm_text.specs.Texts.{IsExercise};
 
@@ -24,50 +24,47 @@ pub fn read(alloc: Global, bytes: &[u8]) -> Result<Exercise, TextFault>
             kind: Fault::Size,
         });
     }
-    let objects = Objects::of_text(alloc, bytes)?;
-    let programs = programs(alloc, &objects, bytes)?;
+    let (objects, programs) = parts(alloc, bytes)?;
     let declarations = objects.into_declarations();
     let owns = owns(alloc, declarations.as_slice())?;
     Ok(Exercise::from_parts(declarations, programs, owns))
 }
 
-/// The programs of the text's threads, in order. Calls are of these objects.
-fn programs(
-    alloc: Global,
-    objects: &Objects,
-    text: &[u8],
-) -> Result<Vec<Vec<Instruction>>, TextFault>
-    ensures programs { IfOk result (λ v. IsWhole objects.now.objects text.now (map (λ p. p.items) v.items)) }
+/// The objects of the text, and the programs of its threads in order.
+fn parts(alloc: Global, text: &[u8]) -> Result<(Objects, Vec<Vec<Instruction>>), TextFault>
+    requires { length text.now ≤ MOST_BYTES }
+    ensures read { IfOk result (λ parts. IsWhole text.now parts.0 (map (λ p. p.items) parts.1.items)) }
     ensures refused { IfErr result (λ why. Refuses why (fault_left (before text.now))) }
 {
     let mut checker = Checker::of_text(alloc, text)?;
+    let mut objects = Objects::new(alloc);
     let mut programs = Programs::new(alloc);
     while !checker.is_done() {
-        step(alloc, objects, &mut checker, &mut programs)?;
+        step(alloc, &mut checker, &mut objects, &mut programs)?;
     }
     match checker.at_end() {
-        None => Ok(programs.into_ended()),
+        None => Ok((objects, programs.into_ended())),
         Some(faulty) => Err(TextFault::of_line(faulty)),
     }
 }
 
-/// Looks at the next line, and adds what it says to the programs.
+/// Looks at the next line, and adds what it says to the objects and the programs.
 fn step(
     alloc: Global,
-    objects: &Objects,
     checker: &mut Checker,
+    objects: &mut Objects,
     programs: &mut Programs,
 ) -> Result<(), TextFault>
     requires { is_empty checker.old.rest ≡ false }
     ensures goes_on { OnOk result
-        (GoesOn objects.now.objects checker.old checker.new programs.old programs.new) }
+        (GoesOn checker.old checker.new objects.old objects.new programs.old programs.new) }
     ensures refused { IfErr result (λ why. Refuses why (fault_left checker.old)) }
 {
     match checker.next_line() {
         Line::Ignored => Ok(()),
         Line::Said(said) => {
-            let instruction = instruction(objects, said.first, &said.words);
-            programs.take(alloc, said.first, instruction)?;
+            objects.take(said.first, &said.words)?;
+            programs.take(alloc, said.first, instruction(&said))?;
             Ok(())
         }
         Line::Faulty(faulty) => Err(TextFault::of_line(faulty)),
