@@ -74,8 +74,8 @@ impl<'a> Checker<'a> {
     }
 
     /// The first fault of the lines that are left, and of the end.
-    pub fn fault_left(&mut self) -> Option<FaultyLine>
-        ensures { result ≡ fault_left self.old }
+    pub fn fault_left(mut self) -> Option<FaultyLine>
+        ensures { result ≡ fault_left self.entry }
     {
         while !self.is_done() {
             match self.next_line() {
@@ -113,6 +113,6 @@ pub fn first_fault(alloc: Global, text: &[u8]) -> Result<Option<FaultyLine>, NoM
             kind: Fault::Size,
         }));
     }
-    let mut checker = Checker::of_text(alloc, text)?;
+    let checker = Checker::of_text(alloc, text)?;
     Ok(checker.fault_left())
 }
