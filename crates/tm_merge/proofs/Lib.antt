@@ -12,3 +12,4 @@ pub mod OrderLemmas
 pub mod ArrivedLemmas
 pub mod HeldOrderLemmas
 pub mod WalkLemmas
+pub mod PlainLemmas

@@ -8,3 +8,4 @@ pub mod StoredArrivals
 pub mod Candidates
 pub mod Holding
 pub mod HeldOrder
+pub mod PlainCandidates

@@ -7,7 +7,7 @@ ghost use Rattle.tm_merge.specs.Showing.{Joins};
 ghost use Rattle.tm_merge.specs.StoredArrivals.{HasRoomFor, KeepsArrivals, view_of};
 
 mod holding;
-mod refusing;
+pub(crate) mod refusing;
 mod showing;
 
 use crate::lines::Line;
@@ -26,7 +26,7 @@ pub(crate) struct Arrivals {
 }
 
 /// The event of the list with this place in this thread.
-fn event_at_place(events: &[Entry], thread: u32, place: u64) -> Option<Entry>
+pub(crate) fn event_at_place(events: &[Entry], thread: u32, place: u64) -> Option<Entry>
     ensures { result ≡ at_place events.now thread place }
 {
     for event in events {
@@ -38,7 +38,7 @@ fn event_at_place(events: &[Entry], thread: u32, place: u64) -> Option<Entry>
 }
 
 /// The event of the list with this place at this object.
-fn event_at_object(events: &[Entry], object: u32, at: u64) -> Option<Entry>
+pub(crate) fn event_at_object(events: &[Entry], object: u32, at: u64) -> Option<Entry>
     ensures { result ≡ at_object events.now object at }
 {
     for event in events {

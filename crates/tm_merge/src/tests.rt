@@ -1,6 +1,11 @@
+mod plain_mergers;
+
 use super::*;
+use plain_mergers::PlainMerger;
+use std::alloc::Global;
+use std::process::Abort;
 use std::test::Fail;
-use tm_base::{Entry, Op, Reply};
+use tm_base::{Entry, NoMemory, Op, Reply};
 
 fn event(thread: u32, place: u64, object: u32, at: u64, stamp: u64) -> Entry {
     Entry {
@@ -95,5 +100,59 @@ fn a_held_event_names_the_place_for_which_it_waits(rt: HostRuntime) -> Result<()
         assert_eq!(rt; merger.held(k), Some(Hold { entry, missing }));
     }
     assert_eq!(rt; merger.held(4), None);
+    Ok(())
+}
+
+/// The events in the order of the numbers `first`, `first` + `step` and so on, wrapped round, with a
+/// settling after each `batch` of them: both mergers give the same answers.
+fn mergers_agree(
+    rt: &impl Abort,
+    alloc: Global,
+    events: &[Entry; 13],
+    first: usize,
+    step: usize,
+    batch: usize,
+) -> Result<(), NoMemory> {
+    let mut merger = Merger::make(alloc, 2, 2)?;
+    let mut plain = PlainMerger::make(alloc, 2, 2)?;
+    let mut index = first;
+    for i in 0..13 {
+        let entry = events[index % 13];
+        index = index % 13 + step % 13;
+        assert_eq!(rt; merger.offer(entry), plain.offer(entry));
+        if i % batch.max(1) == 0 {
+            assert_eq!(rt; merger.settle(), plain.settle());
+        }
+        assert_eq!(rt; merger.held_count(), plain.held_count());
+    }
+    assert_eq!(rt; merger.settle(), plain.settle());
+    assert_eq!(rt; merger.shown(), plain.shown());
+    Ok(())
+}
+
+#[test]
+fn the_merger_answers_as_one_that_searches_whole_lists(rt: HostRuntime) -> Result<(), Fail> {
+    let events = [
+        event(1, 1, 0, 1, 1),
+        event(2, 1, 0, 2, 2),
+        event(1, 2, 1, 1, 2),
+        event(2, 2, 1, 2, 3),
+        event(0, 1, 0, 3, 3),
+        event(1, 3, 1, 3, 4),
+        event(2, 3, 0, 4, 4),
+        event(1, 4, 0, 5, 5),
+        event(1, 2, 0, 9, 2),
+        event(2, 9, 1, 2, 9),
+        event(0, 2, 0, 6, 1),
+        event(3, 1, 0, 1, 1),
+        event(2, 4, 1, 9, 7),
+    ];
+    for first in 0..13 {
+        for step in 1..13 {
+            for batch in [1, 2, 5, 13] {
+                mergers_agree(&rt, rt.alloc(), &events, first, step, batch)?;
+            }
+        }
+    }
     Ok(())
 }

@@ -9,7 +9,7 @@ use crate::refusals::{Field, Refused};
 use tm_base::Entry;
 
 /// The event before, where its stamp isn't smaller.
-fn clash_before(before: Option<Entry>, entry: &Entry) -> Option<Entry>
+pub(crate) fn clash_before(before: Option<Entry>, entry: &Entry) -> Option<Entry>
     ensures { result ≡ clash_before before entry.now }
 {
     match before {
@@ -19,7 +19,7 @@ fn clash_before(before: Option<Entry>, entry: &Entry) -> Option<Entry>
 }
 
 /// The event after, where its stamp isn't greater.
-fn clash_after(after: Option<Entry>, entry: &Entry) -> Option<Entry>
+pub(crate) fn clash_after(after: Option<Entry>, entry: &Entry) -> Option<Entry>
     ensures { result ≡ clash_after after entry.now }
 {
     match after {

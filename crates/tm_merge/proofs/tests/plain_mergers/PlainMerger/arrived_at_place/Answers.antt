@@ -1,0 +1,18 @@
+use Rattle.std.proofs.Common.{◌≡◌, ◌==◌, ◌&&◌, sym, ap, ◌∙◌}
+use Rattle.tm_merge.specs.Places.{at_place}
+use Rattle.tm_merge.proofs.PlainLemmas.{find-in_first, find-in_second}
+use Rattle.tm_merge.proofs.tests.plain_mergers.PlainMerger.arrived_at_place.Goals as goal
+
+pub returns-in-Some : goal.returns-in-Some
+returns-in-Some c =
+    let v = c.args.self.now in
+    let shown : c.as_slice.result.now ≡ v.shown = c.as_slice.ensures.value ∙ ap (λ w. w.shown) c.self.view_is in
+    sym (find-in_first (λ e. e.thread == c.args.thread && e.place == c.args.place) v.shown v.held c.in-Some.event (sym (ap (λ es. at_place es c.args.thread (c.args.place)) shown) ∙ sym c.event_at_place.ensures ∙ c.in-Some.is))
+
+pub returns-in-None : goal.returns-in-None
+returns-in-None c =
+    let v = c.args.self.now in
+    let shown : c.as_slice.result.now ≡ v.shown = c.as_slice.ensures.value ∙ ap (λ w. w.shown) c.self.view_is in
+    let held : c.as_slice-in-None.result.now ≡ v.held = c.as_slice-in-None.ensures.value ∙ ap (λ w. w.held) c.self.view_is in
+    c.event_at_place-in-None.ensures ∙ ap (λ es. at_place es c.args.thread (c.args.place)) held
+    ∙ sym (find-in_second (λ e. e.thread == c.args.thread && e.place == c.args.place) v.shown v.held (sym (ap (λ es. at_place es c.args.thread (c.args.place)) shown) ∙ sym c.event_at_place.ensures ∙ c.in-None.is))
