@@ -13,3 +13,4 @@ pub mod ArrivedLemmas
 pub mod HeldOrderLemmas
 pub mod WalkLemmas
 pub mod PlainLemmas
+pub mod FoundedLemmas

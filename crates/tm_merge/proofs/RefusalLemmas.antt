@@ -19,7 +19,7 @@ or_right : {A : Type 0} (o p : Option A) → option_or o p ≡ None → p ≡ No
 or_right None p h = h
 or_right (Some x) p h = absurd cc
 
-map_none : {A B : Type 0} (f : A → B) (o : Option A) → option_map f o ≡ None → o ≡ None
+pub map_none : {A B : Type 0} (f : A → B) (o : Option A) → option_map f o ≡ None → o ≡ None
 map_none f None h = refl
 map_none f (Some x) h = absurd cc
 
@@ -51,13 +51,13 @@ pub record IsAccepted (v : MergerView) (e : Entry) : Type 0 where
   pub before_at : (a : Entry) → at_object (arrived v) e.object (e.at - 1) ≡ Some a → a.stamp < e.stamp
   pub after_at : (b : Entry) → at_object (arrived v) e.object (suc e.at) ≡ Some b → e.stamp < b.stamp
 
-record InRange (v : MergerView) (e : Entry) : Type 0 where
-  thread : e.thread ≤ v.threads
-  object : e.object < v.objects
-  place : 0 < e.place
-  at : 0 < e.at
+pub record InRange (v : MergerView) (e : Entry) : Type 0 where
+  pub thread : e.thread ≤ v.threads
+  pub object : e.object < v.objects
+  pub place : 0 < e.place
+  pub at : 0 < e.at
 
-in_range : (v : MergerView) (e : Entry) → range_fault v e ≡ None → InRange v e
+pub in_range : (v : MergerView) (e : Entry) → range_fault v e ≡ None → InRange v e
 in_range v e h = record {
   thread = grind (arith, nat_tests);
   object = grind (arith, nat_tests);

@@ -1,7 +1,8 @@
 -- When a merger refuses an event, and with which words.
-use Rattle.std.specs.Prelude.{suc, ◌-◌, ◌==◌, nat_lt, nat_le, if◌then◌else◌, Option, Some, None, Result, Ok, Err}
+use Rattle.std.specs.Prelude.{◌≡◌, ◌≤◌, ◌⊎◌, Contains, suc, ◌-◌, ◌==◌, nat_lt, nat_le, if◌then◌else◌, Option, Some, None, Result, Ok, Err}
 use Rattle.std.specs.Option.{option_or, option_map}
 use Rattle.tm_base.specs.declared.events.Entry.{Entry}
+use Rattle.tm_base.specs.Orders.{IsDirect}
 use Rattle.tm_merge.specs.declared.refusals.Field.{Field}
 use Rattle.tm_merge.specs.declared.refusals.Field.TheVariants as field
 use Rattle.tm_merge.specs.declared.refusals.Refused.{Refused}
@@ -57,3 +58,21 @@ abbrev pub stated : {T : Type 0} → Result T Refused → Option Refused
 stated (Ok done) = None
 stated (Err refused.NoMemory) = None
 stated (Err r) = Some r
+
+-- The two events have one place in one thread, or one at one object.
+abbrev pub SharePlace : Entry → Entry → Type 0
+SharePlace a b = ((a.thread ≡ b.thread) × (a.place ≡ b.place)) ⊎ ((a.object ≡ b.object) × (a.at ≡ b.at))
+
+-- One event is directly before the other, and its stamp isn't smaller.
+abbrev pub BreakRise : Entry → Entry → Type 0
+BreakRise a b = (IsDirect a b × (b.stamp ≤ a.stamp)) ⊎ (IsDirect b a × (a.stamp ≤ b.stamp))
+
+-- What a refusal says of the event is so.
+abbrev pub IsFounded : MergerView → Entry → Refused → Type 0
+IsFounded v e (refused.OutOfRange f) = range_fault v e ≡ Some f
+IsFounded v e (refused.TwicePlace kept new) = (new ≡ e) × Contains (arrived v) kept × SharePlace kept e
+IsFounded v e (refused.StampOrder kept new) = (new ≡ e) × Contains (arrived v) kept × BreakRise kept e
+IsFounded v e refused.NoMemory = ⊥
+
+abbrev pub RefusalsAreFounded : Type 0
+RefusalsAreFounded = (v : MergerView) (e : Entry) (r : Refused) → refusal v e ≡ Some r → IsFounded v e r

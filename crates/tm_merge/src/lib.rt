@@ -13,4 +13,4 @@ mod tests;
 pub use holds::{Hold, Missing};
 pub use mergers::Merger;
 pub use numbering::{numbered_events_are_closed, numbered_events_are_in_order};
-pub use refusals::{Field, Refused};
+pub use refusals::{Field, Refused, refusals_are_founded};

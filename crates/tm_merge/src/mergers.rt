@@ -22,7 +22,6 @@ pub struct Merger {
 }
 
 impl Model for Merger {
-    ghost use Rattle.tm_merge.specs.Holding.{IsHeldAt, IsMissing};
     ghost use Rattle.tm_merge.specs.MergerViews.{MergerView};
 
     ghost Value = { MergerView };

@@ -1,4 +1,5 @@
 ghost use Rattle.std.specs.Prelude.{◌≡◌};
+ghost use Rattle.tm_merge.specs.Refusals.{RefusalsAreFounded};
 
 use tm_base::{Entry, NoMemory};
 
@@ -33,3 +34,10 @@ impl From<NoMemory> for Refused {
         Refused::NoMemory
     }
 }
+
+/// What a refusal says is so: the number is out of range; or the kept event arrived and has the new one's
+/// place in its thread or at its object; or it arrived, stands directly before or after the new one, and
+/// their stamps don't rise.
+pub fn refusals_are_founded()
+    ensures { RefusalsAreFounded }
+{}
