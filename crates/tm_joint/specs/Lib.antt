@@ -1,0 +1,9 @@
+pub mod Joints
+pub mod Asking
+pub mod Refusals
+pub mod Judging
+pub mod ThreadCodes
+pub mod StoredObjects
+pub mod Readings
+pub mod StoredJoints
+pub mod JointCodes

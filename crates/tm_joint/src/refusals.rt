@@ -1,0 +1,35 @@
+use crate::asked::Asked;
+use tm_base::{Entry, Reply};
+
+/// A place in a thread or at an object, whose event comes next.
+#[derive(Clone, Copy, Debug, PartialEq, Eq)]
+pub enum Missing {
+    Thread { thread: u32, place: u64 },
+    Object { object: u32, at: u64 },
+}
+
+/// Why an event isn't a joint step.
+#[derive(Clone, Copy, Debug, PartialEq, Eq)]
+pub enum Cause {
+    /// Its thread has ended.
+    Ended,
+    /// Its place in its thread or at its object isn't the next one, which is this.
+    Place(Missing),
+    /// Its stamp isn't 1 plus the greater of the last stamps of its thread and its object, which is this.
+    Stamp(u64),
+    /// Its thread waits at this object, and the event isn't `resume` there, or the call isn't granted yet.
+    Waiting(u32),
+    /// Its thread may not do this now; it may do what is asked.
+    NotAsked(Asked),
+    /// `main` stops an object that was stopped before.
+    StoppedAlready,
+    /// The object replies this.
+    Reply(Reply),
+}
+
+/// An event that was refused, with the first cause.
+#[derive(Clone, Copy, Debug, PartialEq, Eq)]
+pub struct Illegal {
+    pub entry: Entry,
+    pub cause: Cause,
+}
