@@ -3,7 +3,7 @@ use Rattle.tm_base.specs.declared.kinds.Kind.{Kind}
 use Rattle.tm_book.specs.Made.{CanMake}
 use Rattle.tm_text.specs.declared.exercises.Declaration.{Declaration}
 use Rattle.tm_replay.specs.JointStates.{first_object_state}
-use Rattle.tm_replay.proofs.Lists.{found_at}
+use Rattle.tm_replay.proofs.SliceLemmas.{found_at}
 use Rattle.tm_joint.proofs.Making.{can_make, map-take_more}
 use Rattle.tm_joint.proofs.joints.make_objects.Goals as goal
 

@@ -4,7 +4,7 @@ use Rattle.tm_replay.specs.declared.phases.Phase.TheVariants as phase
 use Rattle.tm_text.specs.Exercises.{instructions_of}
 use Rattle.tm_replay.specs.JointStates.{first_thread_state, unbegun}
 use Rattle.tm_programs.specs.Programs.{Over}
-use Rattle.tm_replay.proofs.Lists.{found_at}
+use Rattle.tm_replay.proofs.SliceLemmas.{found_at}
 use Rattle.tm_joint.proofs.Making.{map-take_more}
 use Rattle.tm_joint.proofs.joints.make_seats.Goals as goal
 
