@@ -32,4 +32,4 @@ pub use names::{Known, Names, declared_kind, is_new_name};
 pub use numerals::{begins_with_r, comparison, number, register};
 pub use places::{OpenBlock, Place};
 pub use saying::{Line, Said};
-pub use words::{Words, next_word};
+pub use words::Words;

@@ -1,4 +1,4 @@
-ghost use Rattle.std.specs.Prelude.{◌≡◌, ℕ, suc, [], ◌∷◌, length, List};
+ghost use Rattle.std.specs.Prelude.{◌≡◌, ℕ, [], ◌∷◌, length, List};
 ghost use Rattle.tm_lines.specs.Lines.{is_ignored, words_of};
 ghost use Rattle.tm_lines.specs.NamedLines.{word_at};
 ghost use Rattle.tm_lines.specs.Saying.{AreFirst};
@@ -80,17 +80,6 @@ impl<'a> Words<'a> {
             3 => self.fourth,
             _ => b"",
         }
-    }
-}
-
-/// The first word of the line, and what follows it. Where there is no word, both are empty.
-pub fn next_word(line: &[u8]) -> (&[u8], &[u8])
-    ensures first { result.0.now ≡ word_at 0 (words_of line.now) }
-    ensures later { (n : ℕ) → word_at n (words_of result.1.now) ≡ word_at (suc n) (words_of line.now) }
-{
-    match first_word(line) {
-        None => (&line[..0], &line[..0]),
-        Some(found) => found,
     }
 }
 
