@@ -6,7 +6,7 @@ ghost use Rattle.tm_merge.specs.Refusals.{refusal};
 ghost use Rattle.tm_merge.specs.Showing.{Joins};
 ghost use Rattle.tm_merge.specs.StoredArrivals.{HasRoomFor, KeepsArrivals, view_of};
 
-mod holding;
+pub(crate) mod holding;
 pub(crate) mod refusing;
 mod showing;
 

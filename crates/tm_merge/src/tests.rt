@@ -127,6 +127,9 @@ fn mergers_agree(
     }
     assert_eq!(rt; merger.settle(), plain.settle());
     assert_eq!(rt; merger.shown(), plain.shown());
+    for k in 0..14 {
+        assert_eq!(rt; merger.held(k), plain.held(k));
+    }
     Ok(())
 }
 

@@ -11,7 +11,7 @@ use crate::holds::Missing;
 use tm_base::Entry;
 
 /// The order of stamps, then of threads, then of places.
-fn comes_before(a: &Entry, b: &Entry) -> bool
+pub(crate) fn comes_before(a: &Entry, b: &Entry) -> bool
     ensures { result ≡ comes_before a.now b.now }
 {
     a.stamp < b.stamp

@@ -1,18 +1,21 @@
-ghost use Rattle.std.specs.Prelude.{◌≡◌, ◌<◌, suc, length, slice_get, IfOk, OnErr, OnOk, Some, MatchOption};
+ghost use Rattle.std.specs.Prelude.{◌≡◌, ◌<◌, suc, length, IfOk, OnErr, OnOk, MatchOption};
 ghost use Rattle.tm_merge.specs.MergerViews.{arrived, nothing_arrived};
 ghost use Rattle.tm_merge.specs.PlainCandidates.{IsNextAt, IsSoonestBelow, ShowsOne};
-ghost use Rattle.tm_merge.specs.Places.{at_object, at_place, has_at, has_place, has_predecessors};
-ghost use Rattle.tm_merge.specs.Refusals.{clash, clash_after, clash_at_object, clash_before, clash_in_thread, range_fault, refusal, stated, twice};
+ghost use Rattle.tm_merge.specs.Places.{at_object, at_place, has_predecessors};
+ghost use Rattle.tm_merge.specs.Refusals.{clash_at_object, clash_in_thread, range_fault, refusal, stated, twice};
 ghost use Rattle.tm_merge.specs.Showing.{IsSettled, Joins, Settles};
 
+use crate::arrivals::holding::comes_before;
 use crate::arrivals::refusing::{clash_after, clash_before};
 use crate::arrivals::{event_at_object, event_at_place};
+use crate::holds::{Hold, Missing};
 use crate::refusals::{Field, Refused};
 use std::alloc::Global;
 use std::marker::Model;
 use tm_base::{Entry, NoMemory};
 
-/// A merger over plain lists, which it searches whole, with the clauses of `Merger`.
+/// A merger over plain lists, which it searches whole. `offer` and `settle` have the clauses of `Merger`; of
+/// `held` no clause speaks.
 #[derive(Drop)]
 pub(super) struct PlainMerger {
     threads: u32,
@@ -258,5 +261,60 @@ impl PlainMerger {
             self.show(index);
         }
         before - self.held_count()
+    }
+
+    /// How many held events come before this one.
+    fn rank(&self, event: &Entry) -> u64 {
+        self.held
+            .iter()
+            .filter(|other| comes_before(other, event))
+            .count() as u64
+    }
+
+    fn gap(&self, event: &Entry) -> Option<Missing> {
+        let thread = event.thread;
+        let place = event.place.saturating_sub(1);
+        if place != 0 && self.arrived_at_place(thread, place).is_none() {
+            return Some(Missing::Thread { thread, place });
+        }
+        let object = event.object;
+        let at = event.at.saturating_sub(1);
+        if at != 0 && self.arrived_at_object(object, at).is_none() {
+            return Some(Missing::Object { object, at });
+        }
+        None
+    }
+
+    fn held_before(&self, event: &Entry) -> Option<Entry> {
+        let held = self.held.as_slice();
+        match event_at_place(held, event.thread, event.place.saturating_sub(1)) {
+            Some(before) => Some(before),
+            None => event_at_object(held, event.object, event.at.saturating_sub(1)),
+        }
+    }
+
+    /// The place at the end of the walk from the event, which has no more steps than there are held events.
+    fn missing(&self, entry: Entry) -> Option<Missing> {
+        let mut event = entry;
+        for _ in 0..self.held.len() {
+            if let Some(missing) = self.gap(&event) {
+                return Some(missing);
+            }
+            event = self.held_before(&event)?;
+        }
+        None
+    }
+
+    pub(super) fn held(&self, k: u64) -> Option<Hold> {
+        for event in &self.held {
+            if self.rank(event) == k {
+                let missing = self.missing(*event)?;
+                return Some(Hold {
+                    entry: *event,
+                    missing,
+                });
+            }
+        }
+        None
     }
 }
