@@ -45,7 +45,7 @@ clash_at_object v e = option_or (clash_before (at_object (arrived v) e.object (e
 abbrev pub clash : MergerView → Entry → Option Entry
 clash v e = option_or (clash_in_thread v e) (clash_at_object v e)
 
--- Why the event is refused, want of memory apart: a number out of range, else a repeated event, else
+-- Why the event is refused, unless memory runs out: a number out of range, else a repeated event, else
 -- stamps that don't rise; with the event that is kept before the new one.
 abbrev pub refusal : MergerView → Entry → Option Refused
 refusal v e =
@@ -53,7 +53,7 @@ refusal v e =
     (option_or (option_map (λ kept. refused.TwicePlace kept e) (twice v e))
     (option_map (λ kept. refused.StampOrder kept e) (clash v e)))
 
--- What an answer says of the event: want of memory says nothing of it.
+-- What an answer says of the event: that memory ran out says nothing of it.
 abbrev pub stated : {T : Type 0} → Result T Refused → Option Refused
 stated (Ok done) = None
 stated (Err refused.NoMemory) = None

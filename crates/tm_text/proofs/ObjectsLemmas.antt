@@ -8,11 +8,11 @@ use Rattle.tm_lines.specs.declared.first_words.FirstWord.{FirstWord}
 use Rattle.tm_lines.specs.declared.words.Words.{Words}
 use Rattle.tm_lines.specs.NamedLines.{declarator_of, kind_by, word_at}
 use Rattle.tm_text.specs.declared.exercises.Declaration.{Declaration}
-use Rattle.tm_text.specs.Objects.{IsDeclarable, Declared, TakesLine, object_by, with_lines, with_object}
+use Rattle.tm_text.specs.Objects.{IsDeclarable, DeclaredObjects, TakesLine, object_by, with_lines, with_object}
 use Rattle.tm_text.specs.Texts.{declarations_said, declared_by, next_thread}
 
 -- the object that a line declares is added
-pub declares_more : (v more : Declared) (first : FirstWord) (d : Declarator) (words : Words) → declarator_of (Some first) ≡ Some d
+pub declares_more : (v more : DeclaredObjects) (first : FirstWord) (d : Declarator) (words : Words) → declarator_of (Some first) ≡ Some d
     → ((later : List Declaration) → IsDeclarable (v.objects ++ object_by v.thread d words ∷ later) → more ≡ with_object v (object_by v.thread d words) (next_thread v.thread d))
     → TakesLine v first words more
 declares_more v more first d words h added ws lines begins are declarable =
@@ -27,7 +27,7 @@ declares_more v more first d words h added ws lines begins are declarable =
     ap (λ w. with_lines w lines) is ∙ append_assoc v.objects (object ∷ []) later ∙ sym front
 
 -- a line that declares nothing
-pub declares_nothing : (v : Declared) (first : FirstWord) (words : Words) → declarator_of (Some first) ≡ None → TakesLine v first words v
+pub declares_nothing : (v : DeclaredObjects) (first : FirstWord) (words : Words) → declarator_of (Some first) ≡ None → TakesLine v first words v
 declares_nothing v first words h ws lines begins are declarable =
     sym (ap (λ o. v.objects ++ declared_by o v.thread ws (λ u. declarations_said u lines)) (ap declarator_of begins ∙ h))
 

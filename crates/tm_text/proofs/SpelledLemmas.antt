@@ -15,7 +15,7 @@ use Rattle.tm_lines.specs.NamedLines.{word_at}
 use Rattle.tm_lines.specs.Saying.{AreFirst}
 use Rattle.tm_lines.specs.TextFaults.{said_words, text_lines}
 use Rattle.tm_text.specs.declared.exercises.Declaration.{Declaration}
-use Rattle.tm_text.specs.Objects.{Declared, IsDeclarable, TakesLine, declarations_of, with_lines}
+use Rattle.tm_text.specs.Objects.{DeclaredObjects, IsDeclarable, TakesLine, declarations_of, with_lines}
 use Rattle.tm_text.specs.SpelledPrograms.{NamesObject, Spelled, after_end, after_line, put_begun, with_said, words_after}
 use Rattle.tm_text.specs.Readings.{GoesOn}
 use Rattle.tm_text.specs.Texts.{instruction_said, programs_by, programs_said, put_instruction}
@@ -70,7 +70,7 @@ shorter : (old new : Check) (bytes : List ℕ) → text_lines old.rest ≡ bytes
 shorter old new bytes lines = let one : length (text_lines old.rest) ≡ suc (length (text_lines new.rest)) = ap length lines in omega arith
 
 -- a line that is ignored
-pub ignored_more : (old new : Check) (a : Declared) (v : Spelled) → Follows old line.Ignored new → GoesOn old new a a v v
+pub ignored_more : (old new : Check) (a : DeclaredObjects) (v : Spelled) → Follows old line.Ignored new → GoesOn old new a a v v
 ignored_more old new a v follows =
     let same : said_words (text_lines new.rest) ≡ said_words (text_lines old.rest) =
     sym (cond-false (not (is_ignored (words_of follows.bytes))) (words_of follows.bytes ∷ said_words (text_lines new.rest)) (said_words (text_lines new.rest)) (ap not follows.is_line.0))
@@ -84,7 +84,7 @@ ignored_more old new a v follows =
     }
 
 -- a line that says something
-pub said_more : (old new : Check) (a b : Declared) (v w : Spelled) (said : Said) (i : Instruction) → Follows old (line.Said said) new → TakesLine a said.first said.words b → ((ds : List Declaration) → NamesObject ds said said.first → i ≡ instruction_said ds said.first (words_after said.words)) → w ≡ after_line v said.first i → GoesOn old new a b v w
+pub said_more : (old new : Check) (a b : DeclaredObjects) (v w : Spelled) (said : Said) (i : Instruction) → Follows old (line.Said said) new → TakesLine a said.first said.words b → ((ds : List Declaration) → NamesObject ds said said.first → i ≡ instruction_said ds said.first (words_after said.words)) → w ≡ after_line v said.first i → GoesOn old new a b v w
 said_more old new a b v w said i follows takes is after =
     let ds = declarations_of old.text in
     let ws = words_of follows.bytes in

@@ -15,16 +15,16 @@ use Rattle.tm_text.specs.declared.exercises.Declaration.{Declaration}
 use Rattle.tm_text.specs.Texts.{declarations_said}
 
 -- The objects that lines declare, and the number of the next thread.
-pub record Declared : Type 0 where
+pub record DeclaredObjects : Type 0 where
   pub objects : List Declaration
   pub thread : ℕ
 
 -- No objects.
-abbrev pub no_objects : Declared
+abbrev pub no_objects : DeclaredObjects
 no_objects = record { objects = []; thread = 1 }
 
 -- The objects with those that the lines declare which are left.
-abbrev pub with_lines : Declared → List (List (List ℕ)) → List Declaration
+abbrev pub with_lines : DeclaredObjects → List (List (List ℕ)) → List Declaration
 with_lines v lines = v.objects ++ declarations_said v.thread lines
 
 -- The objects that the lines of a text declare.
@@ -37,12 +37,12 @@ pub record IsDeclarable (ds : List Declaration) : Type 0 where
   pub named : (o : ℕ) (d : Declaration) → slice_get ds o ≡ Some d → IsName d.name
 
 -- The objects are those of the text, if they can be declared.
-abbrev pub Declares : List ℕ → Declared → Type 0
+abbrev pub Declares : List ℕ → DeclaredObjects → Type 0
 Declares text v = IsDeclarable (declarations_of text) → v.objects ≡ declarations_of text
 
 -- After a line of these words, which begins with this first word, the objects are these, if those of the text can
 -- be declared.
-abbrev pub TakesLine : Declared → FirstWord → Words → Declared → Type 0
+abbrev pub TakesLine : DeclaredObjects → FirstWord → Words → DeclaredObjects → Type 0
 TakesLine v first words w =
     (ws : List (List ℕ)) (lines : List (List (List ℕ))) → first_word_of (word_at 0 ws) ≡ Some first → AreFirst words ws
     → IsDeclarable (with_lines v (ws ∷ lines)) → with_lines w lines ≡ with_lines v (ws ∷ lines)
@@ -52,7 +52,7 @@ abbrev pub object_by : ℕ → Declarator → Words → Declaration
 object_by t d words = record { name = words.second.now; kind = kind_by t d words.third.now words.fourth.now }
 
 -- One object more, after which the next thread has this number.
-abbrev pub with_object : Declared → Declaration → ℕ → Declared
+abbrev pub with_object : DeclaredObjects → Declaration → ℕ → DeclaredObjects
 with_object v d t = record { objects = v.objects ++ d ∷ []; thread = t }
 
 -- The numbers with this object's in front, where it is a thread's own object.

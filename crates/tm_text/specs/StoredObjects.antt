@@ -2,9 +2,9 @@
 use Rattle.std.specs.Prelude.{◌+◌, ◌≤◌, length}
 use Rattle.tm_lines.specs.declared.limits.TheConstants.{MOST_OBJECTS}
 use Rattle.tm_text.specs.declared.objects.Objects.TheInside.{Inside}
-use Rattle.tm_text.specs.Objects.{Declared}
+use Rattle.tm_text.specs.Objects.{DeclaredObjects}
 
-abbrev pub declared_view : Inside → Declared
+abbrev pub declared_view : Inside → DeclaredObjects
 declared_view a = record { objects = a.declarations.items; thread = a.thread }
 
 -- There are no more objects than there may be, and no more threads than objects.

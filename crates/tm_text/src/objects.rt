@@ -18,9 +18,9 @@ pub struct Objects {
 }
 
 impl Model for Objects {
-    ghost use Rattle.tm_text.specs.Objects.{Declared};
+    ghost use Rattle.tm_text.specs.Objects.{DeclaredObjects};
 
-    ghost Value = { Declared };
+    ghost Value = { DeclaredObjects };
 
     ghost use Rattle.tm_text.specs.StoredObjects.{IsWithin, declared_view};
 

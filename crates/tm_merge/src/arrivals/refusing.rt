@@ -124,7 +124,7 @@ impl Arrivals {
         }
     }
 
-    /// Why the event is refused, want of memory apart.
+    /// Why the event is refused, unless memory runs out.
     pub(crate) fn refusal(&self, entry: &Entry) -> Option<Refused>
         requires { KeepsArrivals self.now }
         ensures { result ≡ refusal (view_of self.now) entry.now }
