@@ -1,5 +1,5 @@
 -- What a replayer knows of an event's thread and object.
-use Rattle.std.proofs.Common.{◌≡◌, ◌≢◌, ℕ, ◌<◌, ◌≤◌, true, false, if◌then◌else◌, ◌==◌, ⊎_elim, length, Option, Some, None, slice_get, refl, ap, sym, ◌∙◌, subst, arith, eqb-true, eq-eqb}
+use Rattle.std.proofs.Common.{◌≡◌, ◌≢◌, ℕ, ◌<◌, ◌≤◌, true, false, not, is_some, if◌then◌else◌, ◌==◌, ⊎_elim, length, Option, Some, None, slice_get, refl, ap, sym, ◌∙◌, subst, arith, eqb-true, eq-eqb}
 use Rattle.std.proofs.lemmas.Bool.{cases_Bool, cases_eq, false≢true}
 use Rattle.std.proofs.lemmas.Option.{slice_get_within}
 use Rattle.tm_base.specs.declared.bars.Bar.TheVariants as bar
@@ -9,7 +9,7 @@ use Rattle.tm_base.specs.declared.events.Entry.{Entry}
 use Rattle.tm_base.specs.States.{State, grant_of, is_pending, is_waiting}
 use Rattle.tm_base.specs.Histories.{CanAnswer}
 use Rattle.tm_laws.specs.Tidy.{IsSound, IsTidy}
-use Rattle.tm_laws.proofs.WaitersLemmas.{waiting-ungranted}
+use Rattle.tm_laws.proofs.WaitersLemmas.{pending-waits, waiting-ungranted}
 use Rattle.tm_text.specs.Exercises.{ExerciseView, IsWellFormed, own_of}
 use Rattle.tm_replay.specs.declared.phases.Phase.{Phase}
 use Rattle.tm_replay.specs.declared.phases.Phase.TheVariants as phase
@@ -39,6 +39,16 @@ pub granted-free : (threads : ℕ) (s : State) (t : ℕ) (r : Reply) → IsTidy 
 granted-free threads s t r tidy granted = ⊎_elim
     (λ (h : is_waiting s t ≡ true). let both : None ≡ Some r = sym (waiting-ungranted threads s tidy t h) ∙ granted in absurd cc)
     (λ h. h) (cases_Bool (is_waiting s t))
+
+-- a pending call waits exactly where no reply was granted
+pub blocked : (threads : ℕ) (s : State) (t : ℕ) → IsTidy threads s → is_pending s t ≡ true → not (is_some (grant_of s t)) ≡ is_waiting s t
+blocked threads s t tidy pending = ⊎_elim
+    (λ (waits : is_waiting s t ≡ true). ap (λ o. not (is_some o)) (waiting-ungranted threads s tidy t waits) ∙ sym waits)
+    (λ (free : is_waiting s t ≡ false). by_grant (grant_of s t) refl free) (cases_Bool (is_waiting s t))
+  where
+    by_grant : (g : Option Reply) → grant_of s t ≡ g → is_waiting s t ≡ false → not (is_some (grant_of s t)) ≡ is_waiting s t
+    by_grant None none free = absurd (false≢true (sym free ∙ pending-waits s t pending none))
+    by_grant (Some r) some free = ap (λ o. not (is_some o)) some ∙ sym free
 
 -- a thread that waits isn't `main`
 waits-plain : (p : Phase) (object : ℕ) → p ≡ phase.Waits object → is_main p ≡ false

@@ -3,5 +3,8 @@ pub mod Answering
 pub mod Making
 pub mod Judgements
 pub mod Performing
+pub mod Renewing
+pub mod Granted
+pub mod Showings
 pub mod RefusalsLemmas
 pub mod UniqueCauses

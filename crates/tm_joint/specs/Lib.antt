@@ -7,3 +7,5 @@ pub mod StoredObjects
 pub mod Readings
 pub mod StoredJoints
 pub mod JointCodes
+pub mod StoredBars
+pub mod Showing

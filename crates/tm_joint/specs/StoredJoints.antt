@@ -1,6 +1,7 @@
 -- How a replayer is stored.
-use Rattle.std.specs.Prelude.{◌^◌, ◌≤◌}
+use Rattle.std.specs.Prelude.{◌≡◌, ◌^◌, ◌≤◌}
 use Rattle.tm_text.specs.Exercises.{IsWellFormed}
+use Rattle.tm_replay.specs.Bars.{bars_of}
 use Rattle.tm_replay.specs.JointStates.{JointState}
 use Rattle.tm_replay.specs.SoundStates.{IsSoundJoint}
 use Rattle.tm_replay.specs.Work.{IsCounted}
@@ -22,5 +23,7 @@ pub record IsKept (v : JointView) : Type 0 where
   pub few : v.applied ≤ 2 ^ 62
   pub stamp : v.last_stamp ≤ v.applied
 
-abbrev pub KeepsJoint : Inside → Type 0
-KeepsJoint j = IsKept (joint_view j)
+-- Beside them stand the bars of the joint state.
+pub record KeepsJoint (j : Inside) : Type 0 where
+  pub kept : IsKept (joint_view j)
+  pub bars : j.bars ≡ bars_of (state_of j)

@@ -1,6 +1,6 @@
 ghost use Rattle.std.specs.Prelude.{◌≡◌, ◌+◌, ◌<◌, ◌≤◌, ◌^◌, ◌∷◌, map, max, IfErr, IfNone, IfOk, IfSome, OnErr, OnOk, length};
 ghost use Rattle.tm_programs.specs.Programs.{Over};
-ghost use Rattle.tm_replay.specs.Bars.{bar_in, bar_of, is_runnable};
+ghost use Rattle.tm_replay.specs.Bars.{bar_of, bars_of, is_over, is_runnable, is_stuck};
 ghost use Rattle.tm_replay.specs.JointStates.{first_object_state, first_thread_state, start, unbegun};
 ghost use Rattle.tm_replay.specs.JointSteps.{JointStep};
 ghost use Rattle.tm_joint.specs.Joints.{JointView};
@@ -8,10 +8,12 @@ ghost use Rattle.tm_joint.specs.Readings.{asked_at, holds_at, stopped_at, waited
 ghost use Rattle.tm_joint.specs.Refusals.{IsIllegal, IsLegal, Refuses};
 
 use crate::asked::Asked;
+use crate::bars::{Bars, is_runnable};
 use crate::judging::{asked, other_reply, stops_again, unasked, untimely, waiting};
 use crate::objects::Object;
 use crate::refusals::{Cause, Illegal};
 use crate::seats::Seat;
+use crate::showing::show;
 use std::alloc::Global;
 use std::marker::Model;
 use tm_base::{Bar, Entry, Machine, NoMemory};
@@ -25,6 +27,7 @@ pub struct Joint<'x> {
     exercise: &'x Exercise,
     objects: Vec<Object>,
     seats: Vec<Seat>,
+    bars: Bars,
     applied: u64,
     last_stamp: u64,
 }
@@ -50,14 +53,14 @@ impl<'x> Joint<'x> {
     pub fn make(alloc: Global, exercise: &'x Exercise) -> Result<Joint<'x>, NoMemory>
         ensures { IfOk result (λ joint. joint ≡ record { exercise = exercise.now; state = start exercise.now; applied = 0; last_stamp = 0 }) }
     {
-        // What holds of every exercise is known from this call.
-        let _threads = exercise.threads();
+        let bars = Bars::make(alloc, exercise.threads())?;
         let objects = make_objects(alloc, exercise)?;
         let seats = make_seats(alloc, exercise)?;
         Ok(Joint {
             exercise,
             objects,
             seats,
+            bars,
             applied: 0,
             last_stamp: 0,
         })
@@ -121,10 +124,20 @@ impl<'x> Joint<'x> {
         ensures stamp { self.new.last_stamp ≡ max self.old.last_stamp entry.now.stamp }
         ensures exercise { self.new.exercise ≡ self.old.exercise }
     {
-        self.objects[entry.object as usize].enter(entry);
+        let object = &mut self.objects[entry.object as usize];
+        let before = object.machine().waiters();
+        object.enter(entry);
         self.seats[entry.thread as usize].go_on(entry);
+        show(&mut self.bars, self.seats.as_slice(), object, entry, before);
         self.applied += 1;
         self.last_stamp = self.last_stamp.max(entry.stamp);
+    }
+
+    /// One bar for each program thread, in rising number.
+    pub fn bars(&self) -> &[Bar]
+        ensures { result.now ≡ bars_of self.now.state }
+    {
+        self.bars.as_slice()
     }
 
     /// What the thread does now. The thread is 1 to `threads`.
@@ -133,24 +146,7 @@ impl<'x> Joint<'x> {
         requires known { thread < length self.now.state.threads }
         ensures { result ≡ bar_of self.now.state thread }
     {
-        match self.seats[thread as usize].phase() {
-            Phase::Main | Phase::Free => Bar::Runs,
-            Phase::NotBegun => Bar::Unborn,
-            Phase::Waits(object) => self.waiting_bar(thread, object),
-            Phase::Ended { .. } => Bar::Ended,
-        }
-    }
-
-    /// What a thread does that waits at the object, or was granted there.
-    fn waiting_bar(&self, thread: u32, object: u32) -> Bar
-        requires program { 1 ≤ thread }
-        requires waits { waited_by self.now.state thread ≡ Some object }
-        ensures { result ≡ bar_in self.now.state thread (Phase.Waits object) }
-    {
-        match self.objects[object as usize].machine().poll(thread) {
-            Some(_) => Bar::Granted,
-            None => Bar::Blocked,
-        }
+        self.bars.bar(thread)
     }
 
     /// Whether the thread hasn't ended, and no call of it waits ungranted. The thread is 1 to `threads`.
@@ -159,7 +155,21 @@ impl<'x> Joint<'x> {
         requires known { thread < length self.now.state.threads }
         ensures { result ≡ is_runnable (bar_of self.now.state thread) }
     {
-        !matches!(self.bar(thread), Bar::Ended | Bar::Blocked)
+        is_runnable(self.bar(thread))
+    }
+
+    /// Whether a thread hasn't ended, and none is runnable.
+    pub fn stuck(&self) -> bool
+        ensures { result ≡ is_stuck (bars_of self.now.state) }
+    {
+        self.bars.is_stuck()
+    }
+
+    /// Whether every thread has ended.
+    pub fn over(&self) -> bool
+        ensures { result ≡ is_over (bars_of self.now.state) }
+    {
+        self.bars.is_over()
     }
 
     /// What the thread may do next. `None` exactly where it waits or has ended. The thread is 0 to `threads`.

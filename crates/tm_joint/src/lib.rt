@@ -2,12 +2,14 @@
 #![tactic(auto)]
 
 mod asked;
+mod bars;
 mod joints;
 mod judging;
 mod laws;
 mod objects;
 mod refusals;
 mod seats;
+mod showing;
 
 pub use asked::Asked;
 pub use joints::Joint;

@@ -1,7 +1,7 @@
 ghost use Rattle.std.specs.Prelude.{◌≡◌, IfOk};
 ghost use Rattle.tm_base.specs.Histories.{CanAnswer, Lawful};
 ghost use Rattle.tm_base.specs.Machines.{changed};
-ghost use Rattle.tm_base.specs.States.{State};
+ghost use Rattle.tm_base.specs.States.{State, is_waiting};
 ghost use Rattle.tm_laws.specs.Tidy.{IsSound};
 ghost use Rattle.tm_book.specs.AnyMachines.{any_object};
 ghost use Rattle.tm_book.specs.Made.{CanMake};
@@ -65,6 +65,17 @@ impl Object {
         ensures { result ≡ self.now.stamp }
     {
         self.stamp
+    }
+
+    /// Whether the thread's call waits ungranted.
+    pub fn waits(&self, thread: u32) -> bool
+        requires { IsSound self.now.view }
+        ensures { result ≡ is_waiting self.now.view.state thread }
+    {
+        if !self.machine.pending(thread) {
+            return false;
+        }
+        self.machine.poll(thread).is_none()
     }
 
     /// What the object would answer the thread.

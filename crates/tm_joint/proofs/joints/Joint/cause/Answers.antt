@@ -36,7 +36,7 @@ waiting-requires c =
     let d = (goal.at.waiting-requires c).After-index-object in
     let i = c.self.inside in
     let e = c.args.entry.now in
-    record { pending = pending-here i.exercise.now (state_of i) c.self.invariant.formed c.self.invariant.sound e.thread c.index-seat.result.now (seat d) e.object c.index-object.result.now (object d) }
+    record { pending = pending-here i.exercise.now (state_of i) c.self.invariant.kept.formed c.self.invariant.kept.sound e.thread c.index-seat.result.now (seat d) e.object c.index-object.result.now (object d) }
 
 pub returns-in-Some-waiting-clause-refused : goal.returns-in-Some-waiting-clause-refused
 returns-in-Some-waiting-clause-refused c =
@@ -47,7 +47,7 @@ pub unasked-requires-clause-main : goal.unasked-requires-clause-main
 unasked-requires-clause-main c =
     let d = (goal.at.unasked-requires-clause-main c).After-index-object in
     let i = c.self.inside in
-    main-zero i.exercise.now (state_of i) c.self.invariant.formed c.self.invariant.sound c.args.entry.now.thread c.index-seat.result.now (seat d)
+    main-zero i.exercise.now (state_of i) c.self.invariant.kept.formed c.self.invariant.kept.sound c.args.entry.now.thread c.index-seat.result.now (seat d)
 
 pub returns-in-Some-unasked-clause-refused : goal.returns-in-Some-unasked-clause-refused
 returns-in-Some-unasked-clause-refused c =
@@ -64,7 +64,7 @@ other_reply-requires-clause-can c =
     let d = (goal.at.other_reply-requires-clause-can c).After-index-object in
     let i = c.self.inside in
     let e = c.args.entry.now in
-    can_answer i.exercise.now (state_of i) c.self.invariant.formed c.self.invariant.sound e.thread c.index-seat.result.now (seat d) e.object c.index-object.result.now (object d)
+    can_answer i.exercise.now (state_of i) c.self.invariant.kept.formed c.self.invariant.kept.sound e.thread c.index-seat.result.now (seat d) e.object c.index-object.result.now (object d)
     e refl refl c.in_default.ensures.none.in_place.goes_on c.in_default-waiting.ensures.none c.in_default-unasked.ensures.none c.if-stops_again.ensures
 
 pub other_reply-requires-clause-sound : goal.other_reply-requires-clause-sound
@@ -72,7 +72,7 @@ other_reply-requires-clause-sound c =
     let d = (goal.at.other_reply-requires-clause-sound c).After-index-object in
     let i = c.self.inside in
     let e = c.args.entry.now in
-    sound-view i.exercise.now (state_of i) c.self.invariant.formed c.self.invariant.sound e.thread c.index-seat.result.now (seat d) e.object c.index-object.result.now (object d)
+    sound-view i.exercise.now (state_of i) c.self.invariant.kept.formed c.self.invariant.kept.sound e.thread c.index-seat.result.now (seat d) e.object c.index-object.result.now (object d)
 
 pub returns-in-Some-other_reply-clause-refused : goal.returns-in-Some-other_reply-clause-refused
 returns-in-Some-other_reply-clause-refused c =
