@@ -8,9 +8,8 @@ use Rattle.tm_replay.specs.JointStates.{JointState, ThreadState, ObjectState}
 use Rattle.tm_replay.specs.JointSteps.{JointStep, entered, stepped}
 use Rattle.tm_replay.proofs.Counted.{IsCounted-step}
 use Rattle.tm_replay.proofs.Soundness.{IsSoundJoint-step}
-use Rattle.tm_joint.specs.Joints.{JointView}
 use Rattle.tm_joint.specs.Refusals.{HasAnswer, IsAllowed, IsLegal}
-use Rattle.tm_joint.specs.StoredJoints.{IsKept}
+use Rattle.tm_joint.specs.Joints.{IsKept, JointView}
 
 module _ (x : ExerciseView) (j : JointState) (e : Entry) (legal : IsLegal x j e) (s : ThreadState) (b : ObjectState)
     (thread : slice_get j.threads e.thread ≡ Some s) (object : slice_get j.objects e.object ≡ Some b) where

@@ -3,7 +3,7 @@ ghost use Rattle.tm_programs.specs.Programs.{Over};
 ghost use Rattle.tm_replay.specs.Bars.{bar_of, bars_of, is_over, is_runnable, is_stuck};
 ghost use Rattle.tm_replay.specs.JointStates.{first_object_state, first_thread_state, start, unbegun};
 ghost use Rattle.tm_replay.specs.JointSteps.{JointStep};
-ghost use Rattle.tm_joint.specs.Joints.{JointView};
+ghost use Rattle.tm_joint.specs.Joints.{IsKept};
 ghost use Rattle.tm_joint.specs.Readings.{asked_at, holds_at, stopped_at, waited_by, waiters_at};
 ghost use Rattle.tm_joint.specs.Refusals.{IsIllegal, IsLegal, Refuses};
 
@@ -70,8 +70,8 @@ impl<'x> Joint<'x> {
     /// has now, with the first cause, and is unchanged then. The thread and the object are in range, and
     /// fewer than 2^62 events were applied.
     pub fn apply(&mut self, entry: &Entry) -> Result<(), Illegal>
-        requires thread { entry.now.thread < length self.old.state.threads }
-        requires object { entry.now.object < length self.old.state.objects }
+        requires thread { entry.now.thread ≤ length self.old.exercise.programs }
+        requires object { entry.now.object < length self.old.exercise.objects }
         requires few { self.old.applied < 2 ^ 62 }
         ensures step { OnOk result (JointStep self.old.exercise self.old.state entry.now self.new.state) }
         ensures counted { OnOk result (self.new.applied ≡ self.old.applied + 1) }
@@ -90,8 +90,8 @@ impl<'x> Joint<'x> {
 
     /// The first cause why the event can't happen now.
     fn cause(&self, entry: &Entry) -> Option<Cause>
-        requires thread { entry.now.thread < length self.now.state.threads }
-        requires object { entry.now.object < length self.now.state.objects }
+        requires thread { entry.now.thread ≤ length self.now.exercise.programs }
+        requires object { entry.now.object < length self.now.exercise.objects }
         ensures refused { IfSome result (Refuses self.now.exercise self.now.state entry.now) }
         ensures legal { IfNone result (IsLegal self.now.exercise self.now.state entry.now) }
     {
@@ -143,7 +143,7 @@ impl<'x> Joint<'x> {
     /// What the thread does now. The thread is 1 to `threads`.
     pub fn bar(&self, thread: u32) -> Bar
         requires program { 1 ≤ thread }
-        requires known { thread < length self.now.state.threads }
+        requires known { thread ≤ length self.now.exercise.programs }
         ensures { result ≡ bar_of self.now.state thread }
     {
         self.bars.bar(thread)
@@ -152,7 +152,7 @@ impl<'x> Joint<'x> {
     /// Whether the thread hasn't ended, and no call of it waits ungranted. The thread is 1 to `threads`.
     pub fn runnable(&self, thread: u32) -> bool
         requires program { 1 ≤ thread }
-        requires known { thread < length self.now.state.threads }
+        requires known { thread ≤ length self.now.exercise.programs }
         ensures { result ≡ is_runnable (bar_of self.now.state thread) }
     {
         is_runnable(self.bar(thread))
@@ -174,7 +174,7 @@ impl<'x> Joint<'x> {
 
     /// What the thread may do next. `None` exactly where it waits or has ended. The thread is 0 to `threads`.
     pub fn asked(&self, thread: u32) -> Option<Asked>
-        requires { thread < length self.now.state.threads }
+        requires { thread ≤ length self.now.exercise.programs }
         ensures { result ≡ asked_at self.now.exercise self.now.state thread }
     {
         asked(self.exercise, thread, &self.seats[thread as usize])
@@ -183,7 +183,7 @@ impl<'x> Joint<'x> {
     /// The object at which the thread's call waits, or was granted and isn't resumed. `None` exactly where
     /// there is none. The thread is in range.
     pub fn waits_at(&self, thread: u32) -> Option<u32>
-        requires { thread < length self.now.state.threads }
+        requires { thread ≤ length self.now.exercise.programs }
         ensures { result ≡ waited_by self.now.state thread }
     {
         match self.seats[thread as usize].phase() {
@@ -194,7 +194,7 @@ impl<'x> Joint<'x> {
 
     /// How many calls wait ungranted at the object, which is in range.
     pub fn waiters(&self, object: u32) -> u32
-        requires { object < length self.now.state.objects }
+        requires { object < length self.now.exercise.objects }
         ensures { result ≡ waiters_at self.now.state object }
     {
         self.objects[object as usize].machine().waiters()
@@ -202,7 +202,7 @@ impl<'x> Joint<'x> {
 
     /// Whether the object was stopped, which is in range.
     pub fn stopped(&self, object: u32) -> bool
-        requires { object < length self.now.state.objects }
+        requires { object < length self.now.exercise.objects }
         ensures { result ≡ stopped_at self.now.state object }
     {
         self.objects[object as usize].machine().stopped()
@@ -212,10 +212,18 @@ impl<'x> Joint<'x> {
     /// reader of the reader-writer lock, or is the object's own thread and hasn't ended. The object is in
     /// range.
     pub fn holds(&self, object: u32, thread: u32) -> bool
-        requires { object < length self.now.state.objects }
+        requires { object < length self.now.exercise.objects }
         ensures { result ≡ holds_at self.now.state object thread }
     {
         self.objects[object as usize].machine().holds(thread)
+    }
+
+    /// How many events were applied. The joint state is a sound one of the exercise.
+    pub fn applied(&self) -> u64
+        ensures value { result ≡ self.now.applied }
+        ensures kept { IsKept self.now }
+    {
+        self.applied
     }
 
     /// The greatest stamp of an event that was applied, 0 where there is none.

@@ -15,3 +15,6 @@ pub use asked::Asked;
 pub use joints::Joint;
 pub use laws::{causes_are_unique, refused_events_are_no_steps};
 pub use refusals::{Cause, Illegal, Missing};
+
+#[cfg(test)]
+mod tests;

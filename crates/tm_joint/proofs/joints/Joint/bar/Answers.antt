@@ -1,4 +1,4 @@
-use Rattle.std.proofs.Common.{◌≡◌, ◌-◌, ◌<◌, length, Some, slice_get, ap, sym, ◌∙◌, subst, arith}
+use Rattle.std.proofs.Common.{◌≤◌, ◌≡◌, ◌-◌, ◌<◌, length, Some, slice_get, ap, sym, ◌∙◌, subst, arith}
 use Rattle.tm_replay.specs.Bars.{bar_of}
 use Rattle.tm_joint.specs.Joints.{JointView}
 use Rattle.tm_joint.specs.StoredJoints.{state_of}
@@ -7,7 +7,8 @@ use Rattle.tm_joint.proofs.joints.Joint.bar.Goals as goal
 use Rattle.tm_joint.proofs.joints.Joint.bar.Goals.{After-self}
 
 within : (c : After-self) → c.args.thread < length c.self.inside.seats.items
-within c = subst (λ (v : JointView). c.args.thread < length v.state.threads) (sym c.self.view_is) c.requires.known
+within c =
+    omega (arith, subst (λ (v : JointView). c.args.thread ≤ length v.exercise.programs) (sym c.self.view_is) c.requires.known, c.self.invariant.kept.sound.thread_count)
 
 pub bar-requires-clause-known : goal.bar-requires-clause-known
 bar-requires-clause-known c =

@@ -1,4 +1,4 @@
-use Rattle.std.proofs.Common.{◌≡◌, ◌<◌, length, Some, slice_get, refl, sym, subst}
+use Rattle.std.proofs.Common.{◌≤◌, arith, ◌≡◌, ◌<◌, length, Some, slice_get, refl, sym, subst}
 use Rattle.std.proofs.lemmas.Option.{slice_get_read}
 use Rattle.tm_joint.specs.declared.refusals.Cause.{Cause}
 use Rattle.tm_joint.specs.declared.refusals.Cause.TheVariants as cause
@@ -14,13 +14,13 @@ module _ (c : After-index-object) where
   seat =
       let items = c.self.inside.seats.items in
       slice_get_read items (length items) c.args.entry.now.thread c.index-seat.result.now refl
-      (subst (λ (v : JointView). c.args.entry.now.thread < length v.state.threads) (sym c.self.view_is) c.requires.thread) c.index-seat.ensures
+      (omega (arith, subst (λ (v : JointView). c.args.entry.now.thread ≤ length v.exercise.programs) (sym c.self.view_is) c.requires.thread, c.self.invariant.kept.sound.thread_count)) c.index-seat.ensures
 
   object : slice_get c.self.inside.objects.items c.args.entry.now.object ≡ Some c.index-object.result.now
   object =
       let items = c.self.inside.objects.items in
       slice_get_read items (length items) c.args.entry.now.object c.index-object.result.now refl
-      (subst (λ (v : JointView). c.args.entry.now.object < length v.state.objects) (sym c.self.view_is) c.requires.object) c.index-object.ensures
+      (omega (arith, subst (λ (v : JointView). c.args.entry.now.object < length v.exercise.objects) (sym c.self.view_is) c.requires.object, c.self.invariant.kept.sound.object_count)) c.index-object.ensures
 
   refuses : (k : Cause) → IsCause c.self.inside.exercise.now c.index-seat.result.now c.index-object.result.now c.args.entry.now k
       → Refuses c.args.self.now.exercise c.args.self.now.state c.args.entry.now k

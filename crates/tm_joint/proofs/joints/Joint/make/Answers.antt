@@ -4,7 +4,7 @@ use Rattle.tm_text.specs.Exercises.{IsWellFormed}
 use Rattle.tm_replay.specs.Bars.{bars_of}
 use Rattle.tm_replay.specs.JointStates.{JointState, start}
 use Rattle.tm_replay.proofs.JointStartLemmas.{IsCounted-start, IsSoundJoint-start}
-use Rattle.tm_joint.specs.StoredJoints.{IsKept}
+use Rattle.tm_joint.specs.Joints.{IsKept}
 use Rattle.tm_joint.proofs.Showings.{start-bars}
 use Rattle.tm_joint.proofs.joints.Joint.make.Goals as goal
 
