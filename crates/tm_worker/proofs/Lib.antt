@@ -1,0 +1,6 @@
+pub mod Elements
+pub mod LogsLemmas
+pub mod CallsOfLogs
+pub mod StandingsLemmas
+pub mod StepsLemmas
+pub mod TurnsLemmas

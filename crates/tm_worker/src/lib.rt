@@ -1,0 +1,16 @@
+//! Workers: threads that run programs on shared objects, by their passes, and send each event to their outbox.
+#![tactic(auto)]
+
+mod homes;
+mod logs;
+mod phases;
+mod progresses;
+mod steps;
+mod turned;
+mod turns;
+mod workers;
+
+pub use homes::{Home, WorkerFault};
+pub use phases::Phase;
+pub use turned::Turned;
+pub use workers::Worker;
