@@ -8,7 +8,7 @@ use Rattle.tm_replay.specs.declared.phases.Phase.{Phase}
 use Rattle.tm_replay.specs.declared.phases.Phase.TheVariants as phase
 use Rattle.tm_replay.specs.JointStates.{ThreadState, ObjectState}
 use Rattle.tm_replay.specs.SoundStates.{waits_at}
-use Rattle.tm_replay.proofs.Lists.{slice_get-set_same}
+use Rattle.tm_replay.proofs.SliceLemmas.{slice_get-set_same}
 use Rattle.tm_joint.specs.Showing.{Renews, Shows, ShowsOne, bar_by, grants_none, renewed, waiting_bar}
 
 pub slice_get-set_other : {A : Type 0} (xs : List A) (i k : ℕ) (v : A) → k ≢ i → slice_get (slice_set xs i v) k ≡ slice_get xs k

@@ -22,7 +22,7 @@ use Rattle.tm_replay.specs.JointStates.{JointState, ThreadState, ObjectState, st
 use Rattle.tm_replay.specs.JointSteps.{JointStep, entered, phase_after, phase_by, stepped}
 use Rattle.tm_replay.specs.SoundStates.{IsSoundJoint, waits_at}
 use Rattle.tm_replay.specs.Bars.{bar_for, bar_in, bar_of, bars_of, waits_in}
-use Rattle.tm_replay.proofs.Lists.{found_at, slice_get-set_same}
+use Rattle.tm_replay.proofs.SliceLemmas.{found_at, slice_get-set_same}
 use Rattle.tm_joint.specs.Showing.{Shows, bar_by, grants_none, renewed, waiting_bar}
 use Rattle.tm_joint.proofs.Granted.{alike}
 use Rattle.tm_joint.proofs.Renewing.{slice_get-set_other}

@@ -7,7 +7,7 @@ use Rattle.tm_laws.proofs.LawfulMoves.{Lawful-moves}
 use Rattle.tm_replay.specs.JointStates.{JointState, ObjectState, ThreadState}
 use Rattle.tm_replay.specs.JointSteps.{JointStep}
 use Rattle.tm_joint.specs.Joints.{JointView}
-use Rattle.tm_replay.proofs.Lists.{slice_get-set_same}
+use Rattle.tm_replay.proofs.SliceLemmas.{slice_get-set_same}
 use Rattle.tm_joint.specs.Refusals.{IsLegal}
 use Rattle.tm_joint.specs.Showing.{Shows}
 use Rattle.tm_joint.specs.StoredJoints.{joint_view, state_of}
