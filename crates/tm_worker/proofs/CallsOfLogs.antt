@@ -27,7 +27,7 @@ use Rattle.tm_turn.specs.Passes.{PassView, TurnView, mine}
 use Rattle.tm_worker.specs.Logs.{log_of, KeepsLog, IsOwnPass, IsSamePass, AreSamePasses, AtPass, IsSent}
 use Rattle.tm_worker.specs.Outcomes.{SuitsPasses, CanCall, FailedToCall, FailedToResume}
 use Rattle.tm_worker.proofs.Elements.{same_some}
-use Rattle.tm_worker.proofs.LogsLemmas.{took_same, lost_same, lost_mine, set_now, set_passes, keeps-unsent, keeps-sent}
+use Rattle.tm_worker.proofs.LogsLemmas.{took_same, lost_same, lost_mine, set_now, set_passes, keeps-unsent, keeps-sent, own_step}
 
 -- a pass that made no event
 pub record MadeNone (p q : PassView) : Type 0 where
@@ -108,10 +108,17 @@ module _ (shared : List TurnView) (passes : List PassView) (ticket : TicketView)
           subst (λ (es : List Entry). KeepsLog (slice_set passes o q) later es) (sym is)
           (keeps-sent passes ticket outbox.sent keeps o p q found (took_same s.label p q took) s.label object_is a e later added elsewhere)
 
-      pub sent_log : (new : OutboxView) → new.sent ≡ outbox.sent ++ e ∷ [] → new.ring ≡ outbox.ring → outbox.spare ≤ new.spare + 1
+      pub sent_log : (new : OutboxView) → ((k : ℕ) → k ≢ o → is_in ticket.waits k ≡ false) → new.sent ≡ outbox.sent ++ e ∷ [] → new.ring ≡ outbox.ring → outbox.spare ≤ new.spare + 1
           → IsSent (log_of passes ticket outbox) o a e (log_of (slice_set passes o q) later new)
-      sent_log new sent ring spare =
-          record { object = added.made.object ∙ object_is; op = added.made.op; ticket = added.made.ticket; sent = sent; ring = ring; spare = spare }
+      sent_log new elsewhere sent ring spare =
+          record {
+            object = added.made.object ∙ object_is;
+            op = added.made.op;
+            step = own_step passes ticket outbox.sent keeps o p q found (took_same s.label p q took) s.label object_is a e later added elsewhere;
+            sent = sent;
+            ring = ring;
+            spare = spare;
+          }
 
 pub nowhere : (ticket : TicketView) → ticket.waits ≡ None → (o k : ℕ) → k ≢ o → is_in ticket.waits k ≡ false
 nowhere ticket free o k other = ap (λ w. is_in w k) free

@@ -4,3 +4,4 @@ pub mod CallsOfLogs
 pub mod StandingsLemmas
 pub mod StepsLemmas
 pub mod TurnsLemmas
+pub mod RunLemmas

@@ -132,7 +132,7 @@ module _ (passes : List PassView) (ticket : TicketView) (sent : List Entry) (kee
     object_is : e.object ≡ o
     object_is = added.made.object ∙ its
 
-    own_step : IsOwnStep (slice_set passes o q) ticket e later
+    pub own_step : IsOwnStep (slice_set passes o q) ticket e later
     own_step =
         record {
           thread = added.made.thread;

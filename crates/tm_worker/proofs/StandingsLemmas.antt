@@ -48,13 +48,13 @@ module _ (old new : List PassView) (same : AreSamePasses old new) (k : ℕ) (q :
 
 module _ (old new : LogView) (o : ℕ) (p : Op) (e : Entry) (sent : IsSent old o p e new) (same : AreSamePasses old.passes new.passes) where
   thread_is : new.ticket.thread ≡ old.ticket.thread
-  thread_is = ap (λ (t : TicketView). t.thread) sent.ticket
+  thread_is = ap (λ (t : TicketView). t.thread) sent.step.ticket
 
   waits_is : new.ticket.waits ≡ waits_after e.object e.reply
-  waits_is = ap (λ (t : TicketView). t.waits) sent.ticket
+  waits_is = ap (λ (t : TicketView). t.waits) sent.step.ticket
 
   next_is : new.ticket.next ≡ old.ticket.next + 1
-  next_is = ap (λ (t : TicketView). t.next) sent.ticket
+  next_is = ap (λ (t : TicketView). t.next) sent.step.ticket
 
   -- one more event of a thread that is on its way, which isn't its end
   pub on_way_more : (n r : ℕ) (w : Option ℕ) → IsOnItsWay n w (suc r) old → is_end p ≡ false → IsOnItsWay (n + 1) (waits_after e.object e.reply) r new
@@ -137,7 +137,7 @@ module _ (shared : List TurnView) (old new : LogView) (limit made o : ℕ) (p : 
       let s = found_at shared k (omega (arith, within, count)) in
       let label = (suits.of k s.0 was.0 s.1 was.1).1 in
       let kind : s.0.label.kind ≡ q.label.kind = sym (ap (λ l. l.kind) label) ∙ was.2 in
-      let thread : new.ticket.thread ≡ old.ticket.thread = ap (λ (t : TicketView). t.thread) sent.ticket in
+      let thread : new.ticket.thread ≡ old.ticket.thread = ap (λ (t : TicketView). t.thread) sent.step.ticket in
       let there : is_own_at shared old.ticket.thread k ≡ true = ap (is_own_in old.ticket.thread) s.1 ∙ ap (is_own old.ticket.thread) kind ∙ ap (λ t. is_own t q.label.kind) (sym thread) ∙ mine in
       has.only k there ∙ sym (has.only o own)
 
@@ -162,7 +162,7 @@ module _ (shared : List TurnView) (old new : LogView) (limit made o : ℕ) (p : 
   made_event (phase.Waits at) s next =
       let on = on_way_more old new o p e sent same (2 * made + 2) 1 (Some at) s (ap is_end next.0) in
       let n : made + (if is_call e.op then 1 else 0) ≡ made = uncalled (ap is_call (sent.op ∙ next.0)) in
-      let none : waits_after e.object e.reply ≡ None = sym (ap (λ (t : TicketView). t.waits) sent.ticket) ∙ resumed next.0 in
+      let none : waits_after e.object e.reply ≡ None = sym (ap (λ (t : TicketView). t.waits) sent.step.ticket) ∙ resumed next.0 in
       record {
         few = omega (arith, few, n);
         stands = moved limit made (made + (if is_call e.op then 1 else 0)) new (phase_by e.reply e.object) (phase_after e) n (after_goes e (ap is_end (sent.op ∙ next.0)))

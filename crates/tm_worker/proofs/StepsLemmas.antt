@@ -127,7 +127,7 @@ module _ {B : Type 0} (over : B → Bool) (limit : ℕ) (shared : List TurnView)
   stands_sent new o p e sent same resumed next =
       let now = made_event shared old new limit s.made o p e suits has sent same stands.made resumed s.phase stands.stands next in
       let program = stands.program in
-      let thread : new.ticket.thread ≡ old.ticket.thread = ap (λ (t : TicketView). t.thread) sent.ticket in
+      let thread : new.ticket.thread ≡ old.ticket.thread = ap (λ (t : TicketView). t.thread) sent.step.ticket in
       record {
         program = omega (arith, program, thread);
         limited = stands.limited;

@@ -7,17 +7,17 @@ use Rattle.tm_base.specs.declared.operations.Op.{Op}
 use Rattle.tm_base.specs.declared.replies.Reply.{Reply}
 use Rattle.tm_base.specs.declared.events.Entry.{Entry}
 use Rattle.tm_base.specs.Bodies.{goes_on_after}
-use Rattle.tm_base.specs.Tickets.{TicketView, opening, advanced}
+use Rattle.tm_base.specs.Tickets.{TicketView, opening}
 use Rattle.tm_shared.specs.OwnEvents.{ends_waiting}
 use Rattle.tm_turn.specs.Passes.{PassView, TurnView}
 use Rattle.tm_worker.specs.declared.phases.Phase.{Phase}
 use Rattle.tm_worker.specs.declared.phases.Phase.TheVariants as phase
 use Rattle.tm_worker.specs.declared.turned.Turned.{Turned}
 use Rattle.tm_worker.specs.declared.turned.Turned.TheVariants as turned
-use Rattle.tm_worker.specs.Logs.{LogView, KeepsLog, AreSamePasses}
+use Rattle.tm_worker.specs.Logs.{LogView, IsOwnStep, KeepsLog, AreSamePasses}
 use Rattle.tm_worker.specs.Outcomes.{SuitsPasses}
 use Rattle.tm_worker.specs.Progresses.{ProgressView, GivesUpIn, GoesOn, PreparesIn, TurnsTo, ending, short_of_room}
-use Rattle.tm_worker.specs.Standings.{kinds_of, kinds_of_passes}
+use Rattle.tm_worker.specs.Standings.{is_own_at, kinds_of, kinds_of_passes}
 use Rattle.tm_worker.specs.Turning.{Attempts, LostAtNext, SawItWaitAt, SendsNone, SendsOne, Tries, Turns}
 use Rattle.tm_worker.specs.Workers.{AreFreshPasses}
 use Rattle.tm_worker.proofs.Elements.{found_at, maps_alike}
@@ -60,7 +60,7 @@ sends_since : (old mid new : LogView) (e : Entry) → SendsNone old mid → Send
 sends_since old mid new e none one =
     record {
       sent = one.sent ∙ ap (λ es. es ++ e ∷ []) none.sent;
-      ticket = one.ticket ∙ ap (λ (t : TicketView). advanced t e) none.ticket;
+      step = subst (λ (t : TicketView). IsOwnStep new.passes t e new.ticket) none.ticket one.step;
       ring = one.ring ∙ none.ring;
     }
 
@@ -151,7 +151,10 @@ module _ {B : Type 0} (asked : B → Reply → Ask) (rest : B → Reply → B) (
     passes_are : mid.passes ≡ old.passes
     passes_are = ap (λ (l : LogView). l.passes) same
 
-    pub turn_done : (t : Turned) (s' : ProgressView B) (new : LogView) → Tries own s0 mid t s' new → Turns asked rest limit own s old t s' new
+    own_same : (shared : List TurnView) → is_own_at shared mid.ticket.thread ≡ is_own_at shared old.ticket.thread
+    own_same shared = ap (λ (l : LogView). is_own_at shared l.ticket.thread) same
+
+    turn_done : (t : Turned) (s' : ProgressView B) (new : LogView) → Tries own s0 mid t s' new → Turns asked rest limit own s old t s' new
     turn_done (turned.Made e) s' new tries = (
       record { turned = tries.turned; goes_on = inr (record { turned = s0; prepares = prepares; gives_up = tries.gives_up }); next = tries.attempts.0; after = tries.attempts.1 },
       sends_since old mid new e none_yet tries.attempts.2,
@@ -204,3 +207,8 @@ module _ {B : Type 0} (asked : B → Reply → Ask) (rest : B → Reply → B) (
           subst (λ (x : ProgressView B). LostAtNext own x.phase old new h) (sym tries.attempts.0) here,
         )
     turn_done turned.Over s' new tries = absurd tries.attempts
+
+    -- the same, where the attempt says by its own log which object is the thread's own
+    pub turn_of : (shared : List TurnView) → own ≡ is_own_at shared old.ticket.thread → (t : Turned) (s' : ProgressView B) (new : LogView)
+        → Tries (is_own_at shared mid.ticket.thread) s0 mid t s' new → Turns asked rest limit own s old t s' new
+    turn_of shared is t s' new tries = turn_done t s' new (subst (λ (o : ℕ → Bool). Tries o s0 mid t s' new) (own_same shared ∙ sym is) tries)

@@ -67,7 +67,7 @@ pub record AreSamePasses (old new : List PassView) : Type 0 where
 pub record IsSent (old : LogView) (o : ℕ) (p : Op) (e : Entry) (new : LogView) : Type 0 where
   pub object : e.object ≡ o
   pub op : e.op ≡ p
-  pub ticket : new.ticket ≡ advanced old.ticket e
+  pub step : IsOwnStep new.passes old.ticket e new.ticket
   pub sent : new.outbox.sent ≡ old.outbox.sent ++ e ∷ []
   pub ring : new.outbox.ring ≡ old.outbox.ring
   pub spare : old.outbox.spare ≤ new.outbox.spare + 1

@@ -5,20 +5,19 @@ use Rattle.tm_base.specs.declared.operations.Op.{Op}
 use Rattle.tm_base.specs.declared.operations.Op.TheVariants as op
 use Rattle.tm_base.specs.declared.replies.Reply.{Reply}
 use Rattle.tm_base.specs.declared.events.Entry.{Entry}
-use Rattle.tm_base.specs.Tickets.{advanced}
 use Rattle.tm_shared.specs.Faults.{SawItWait}
 use Rattle.tm_turn.specs.Passes.{PassView}
 use Rattle.tm_worker.specs.declared.phases.Phase.{Phase}
 use Rattle.tm_worker.specs.declared.phases.Phase.TheVariants as phase
 use Rattle.tm_worker.specs.declared.turned.Turned.{Turned}
 use Rattle.tm_worker.specs.declared.turned.Turned.TheVariants as turned
-use Rattle.tm_worker.specs.Logs.{LogView, AtPass}
+use Rattle.tm_worker.specs.Logs.{LogView, AtPass, IsOwnStep}
 use Rattle.tm_worker.specs.Progresses.{ProgressView, GivesUpIn, GoesOn, IsNextIn, ProgramRun, ProgramStep, after_event, is_ended}
 
--- The event was sent, once, and the ticket went on by it.
+-- The thread's next event was sent, once, and the ticket went on by it.
 pub record SendsOne (old : LogView) (e : Entry) (new : LogView) : Type 0 where
+  pub step : IsOwnStep new.passes old.ticket e new.ticket
   pub sent : new.outbox.sent ≡ old.outbox.sent ++ e ∷ []
-  pub ticket : new.ticket ≡ advanced old.ticket e
   pub ring : new.outbox.ring ≡ old.outbox.ring
 
 -- Nothing was sent.

@@ -5,7 +5,7 @@ ghost use Rattle.tm_worker.specs.declared.phases.Phase.TheVariants as phase;
 ghost use Rattle.tm_worker.specs.Logs.{AreSamePasses, KeepsLog};
 ghost use Rattle.tm_worker.specs.Outcomes.{SuitsPasses};
 ghost use Rattle.tm_worker.specs.Standings.{HasOwn, is_own_at, kinds_of};
-ghost use Rattle.tm_worker.specs.Turning.{Turns, is_done, is_over, is_worn};
+ghost use Rattle.tm_worker.specs.Turning.{Ran, Turns, is_done, is_over, is_worn};
 ghost use Rattle.tm_worker.specs.Workers.{AreFreshPasses};
 
 use crate::homes::{Home, WorkerFault};
@@ -14,8 +14,10 @@ use crate::phases::Phase;
 use crate::progresses::Progress;
 use crate::turned::Turned;
 use crate::turns;
+use crossbeam_utils::Backoff;
 use std::alloc::Global;
 use std::marker::Model;
+use std::sync::Wait;
 use tm_base::{Body, Sequence, Ticket};
 use tm_outside::Gate;
 use tm_ring::Outbox;
@@ -107,6 +109,29 @@ impl<B: Body> Worker<B> {
         ensures stays { (kinds : List Kind) → B.is_for kinds self.old.progress.body → B.is_for kinds self.new.progress.body }
     {
         turns::turn(&mut self.progress, self.limit, &mut self.log, shared, gate)
+    }
+
+    /// Makes turns until the answer is `Over`, and holds back between those that make no event. That there is an
+    /// end isn't promised.
+    pub fn run<R: Wait, G: Gate>(&mut self, rt: &R, shared: &[Shared], gate: &G)
+        requires suits { SuitsPasses shared.now self.old.log.passes self.old.log.ticket.thread }
+        requires own { HasOwn shared.now self.old.log.ticket.thread }
+        requires body { B.is_for (kinds_of shared.now) self.old.progress.body }
+        ensures ran { Ran B.asked B.rest self.old.limit (is_own_at shared.now self.old.log.ticket.thread) self.old.progress self.old.log self.new.progress self.new.log }
+        ensures over { is_done self.new.progress self.new.log ≡ true }
+        ensures passes { AreSamePasses self.old.log.passes self.new.log.passes }
+        ensures limit { self.new.limit ≡ self.old.limit }
+        ensures stays { (kinds : List Kind) → B.is_for kinds self.old.progress.body → B.is_for kinds self.new.progress.body }
+    {
+        let backoff = Backoff::new();
+        for _ in rt.forever() {
+            match self.turn(shared, gate) {
+                Turned::Made(_) => backoff.reset(),
+                Turned::NotYet | Turned::Busy(_) => backoff.snooze(),
+                Turned::Over => return,
+            }
+        }
+        unreachable!()
     }
 
     /// Whether room for a call was refused, which ended its program.

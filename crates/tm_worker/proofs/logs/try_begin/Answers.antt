@@ -41,7 +41,7 @@ returns-in-Ok-clause-sent c =
     let within = slice_get_within c.args.passes.now.items c.args.object c.requires.can.pass c.requires.can.found in
     sent_log c.args.shared.now c.args.passes.now.items c.args.ticket.now c.args.outbox.now c.args.object c.index-shared-k.result c.index_mut.result.now
     c.requires.suits c.requires.keeps within c.index-shared-k.is c.index_mut.ensures.value c.try_begin.new.pass c.try_begin.new.ticket c.args.op c.in-Ok.entry
-    c.in-Ok.ensures.turn c.in-Ok.ensures.added c.send.new.self (ap (λ (x : OutboxView). x.sent) c.send.ensures.sent) (ap (λ (x : OutboxView). x.ring) c.send.ensures.sent) c.send.ensures.spare
+    c.in-Ok.ensures.turn c.in-Ok.ensures.added c.send.new.self (nowhere c.args.ticket.now c.requires.can.free c.args.object) (ap (λ (x : OutboxView). x.sent) c.send.ensures.sent) (ap (λ (x : OutboxView). x.ring) c.send.ensures.sent) c.send.ensures.spare
 
 pub returns-in-Err-clause-keeps : goal.returns-in-Err-clause-keeps
 returns-in-Err-clause-keeps c =

@@ -53,7 +53,7 @@ returns-in-Ok-clause-sent c =
     let within = c.requires.keeps.there c.args.object c.requires.here in
     sent_log c.args.shared.now c.args.passes.now.items c.args.ticket.now c.args.outbox.now c.args.object c.index-shared-k.result c.index_mut.result.now
     c.requires.suits c.requires.keeps within c.index-shared-k.is c.index_mut.ensures.value c.try_finish.new.pass c.try_finish.new.ticket op.Resume c.in-Ok.entry
-    c.in-Ok.ensures.turn c.in-Ok.ensures.added c.send.new.self (ap (λ (x : OutboxView). x.sent) c.send.ensures.sent) (ap (λ (x : OutboxView). x.ring) c.send.ensures.sent) c.send.ensures.spare
+    c.in-Ok.ensures.turn c.in-Ok.ensures.added c.send.new.self (only_here c.args.ticket.now c.args.object c.requires.here) (ap (λ (x : OutboxView). x.sent) c.send.ensures.sent) (ap (λ (x : OutboxView). x.ring) c.send.ensures.sent) c.send.ensures.spare
 
 pub returns-in-Err-clause-keeps : goal.returns-in-Err-clause-keeps
 returns-in-Err-clause-keeps c =
