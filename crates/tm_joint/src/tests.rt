@@ -44,3 +44,64 @@ fn an_event_is_applied_once(rt: HostRuntime) -> Result<(), Fail> {
     assert_eq!(rt; joint.last_stamp(), 1);
     Ok(())
 }
+
+/// An event of that exercise.
+const fn event(
+    thread: u32,
+    place: u64,
+    object: u32,
+    at: u64,
+    stamp: u64,
+    op: Op,
+    reply: Reply,
+) -> Entry {
+    Entry {
+        thread,
+        place,
+        object,
+        at,
+        stamp,
+        op,
+        reply,
+    }
+}
+
+#[test]
+fn a_waiting_thread_is_granted_and_resumes(rt: HostRuntime) -> Result<(), Fail> {
+    let exercise = read(rt.alloc(), PAIR)?;
+    let mut joint = Joint::make(rt.alloc(), &exercise)?;
+    let end = Op::End { cut: false };
+    let (runs, blocked) = (Bar::Runs, Bar::Blocked);
+    let run = [
+        (
+            event(1, 1, 1, 1, 1, Op::Begin, Reply::Ok),
+            [runs, Bar::Unborn],
+        ),
+        (event(2, 1, 2, 1, 1, Op::Begin, Reply::Ok), [runs, runs]),
+        (event(1, 2, 0, 1, 2, Op::Lock, Reply::Ok), [runs, runs]),
+        (event(2, 2, 0, 2, 3, Op::Lock, Reply::Wait), [runs, blocked]),
+        (
+            event(1, 3, 0, 3, 4, Op::Unlock, Reply::Gave(2)),
+            [runs, Bar::Granted],
+        ),
+        (event(2, 3, 0, 4, 5, Op::Resume, Reply::Ok), [runs, runs]),
+        (event(1, 4, 1, 2, 5, end, Reply::Ok), [Bar::Ended, runs]),
+        (
+            event(2, 4, 0, 5, 6, Op::Unlock, Reply::Ok),
+            [Bar::Ended, runs],
+        ),
+        (
+            event(2, 5, 2, 2, 7, end, Reply::Ok),
+            [Bar::Ended, Bar::Ended],
+        ),
+    ];
+    for (entry, bars) in run {
+        assert!(rt; entry.thread <= exercise.threads());
+        assert!(rt; entry.object < exercise.objects());
+        assert!(rt; joint.applied() < 9);
+        assert_eq!(rt; joint.apply(&entry), Ok(()));
+        assert_eq!(rt; joint.bars(), bars.as_slice());
+    }
+    assert!(rt; joint.over());
+    Ok(())
+}
