@@ -15,7 +15,7 @@ use Rattle.tm_replay.specs.JointSteps.{JointStep, May, MayIn}
 use Rattle.tm_replay.specs.SoundStates.{is_past}
 use Rattle.tm_joint.specs.declared.refusals.Cause.{Cause}
 use Rattle.tm_joint.specs.declared.refusals.Cause.TheVariants as cause
-use Rattle.tm_joint.specs.declared.refusals.Missing.TheVariants as missing
+use Rattle.tm_merge.specs.declared.holds.Missing.TheVariants as missing
 use Rattle.tm_joint.specs.Refusals.{IsCause, IsNoResume, Refuses}
 
 -- a thread that has ended may do nothing

@@ -18,8 +18,8 @@ use Rattle.tm_joint.specs.declared.asked.Asked.{Asked}
 use Rattle.tm_joint.specs.declared.refusals.Cause.{Cause}
 use Rattle.tm_joint.specs.declared.refusals.Cause.TheVariants as cause
 use Rattle.tm_joint.specs.declared.refusals.Illegal.{Illegal}
-use Rattle.tm_joint.specs.declared.refusals.Missing.{Missing}
-use Rattle.tm_joint.specs.declared.refusals.Missing.TheVariants as missing
+use Rattle.tm_merge.specs.declared.holds.Missing.{Missing}
+use Rattle.tm_merge.specs.declared.holds.Missing.TheVariants as missing
 use Rattle.tm_joint.specs.Asking.{asked_in}
 use Rattle.tm_joint.specs.Refusals.{HasAnswer, IsCause, IsIllegal, IsInPlace, IsMissing, IsNoResume, IsTimely, stamp_after}
 

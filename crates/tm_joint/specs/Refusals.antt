@@ -14,8 +14,8 @@ use Rattle.tm_replay.specs.JointSteps.{JointStep, May}
 use Rattle.tm_replay.specs.SoundStates.{is_past}
 use Rattle.tm_joint.specs.declared.refusals.Cause.{Cause}
 use Rattle.tm_joint.specs.declared.refusals.Cause.TheVariants as cause
-use Rattle.tm_joint.specs.declared.refusals.Missing.{Missing}
-use Rattle.tm_joint.specs.declared.refusals.Missing.TheVariants as missing
+use Rattle.tm_merge.specs.declared.holds.Missing.{Missing}
+use Rattle.tm_merge.specs.declared.holds.Missing.TheVariants as missing
 use Rattle.tm_joint.specs.declared.refusals.Illegal.{Illegal}
 use Rattle.tm_joint.specs.Asking.{asked_in}
 

@@ -13,9 +13,10 @@ ghost use Rattle.tm_joint.specs.Refusals.{HasAnswer, IsCause, IsNoResume, IsTime
 
 use crate::asked::Asked;
 use crate::objects::Object;
-use crate::refusals::{Cause, Missing};
+use crate::refusals::Cause;
 use crate::seats::Seat;
 use tm_base::{Ask, Entry, Machine, Op, Reply};
+use tm_merge::Missing;
 use tm_replay::Phase;
 use tm_text::Exercise;
 

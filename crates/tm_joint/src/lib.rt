@@ -14,7 +14,7 @@ mod showing;
 pub use asked::Asked;
 pub use joints::Joint;
 pub use laws::{causes_are_unique, refused_events_are_no_steps};
-pub use refusals::{Cause, Illegal, Missing};
+pub use refusals::{Cause, Illegal};
 
 #[cfg(test)]
 mod tests;

@@ -1,12 +1,6 @@
 use crate::asked::Asked;
 use tm_base::{Entry, Reply};
-
-/// A place in a thread or at an object, whose event comes next.
-#[derive(Clone, Copy, Debug, PartialEq, Eq)]
-pub enum Missing {
-    Thread { thread: u32, place: u64 },
-    Object { object: u32, at: u64 },
-}
+use tm_merge::Missing;
 
 /// Why an event isn't a joint step.
 #[derive(Clone, Copy, Debug, PartialEq, Eq)]

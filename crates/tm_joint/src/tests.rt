@@ -1,6 +1,7 @@
 use super::*;
 use std::test::Fail;
 use tm_base::{Bar, Entry, Op, Reply};
+use tm_merge::Missing;
 use tm_text::read;
 
 /// Two threads that take one mutex in turn.
