@@ -18,8 +18,8 @@ pub Contains-next : {A : Type 0} (y : A) (xs : List A) (x : A) → Contains xs x
 Contains-next y xs x within = (suc within.0, omega (arith, within.1), within.2)
 
 -- the one in the middle is an element
-pub Contains-middle : {A : Type 0} (front back : List A) (x : A) → Contains (front ++ x ∷ back) x
-Contains-middle front back x = Contains-append_right front (x ∷ back) x (Contains-head x back)
+pub Contains-middle : {A : Type 0} (prefix back : List A) (x : A) → Contains (prefix ++ x ∷ back) x
+Contains-middle prefix back x = Contains-append_right prefix (x ∷ back) x (Contains-head x back)
 
 -- an element that passes is kept
 pub Contains-filter : {A : Type 0} (p : A → Bool) (xs : List A) (x : A) → Contains xs x → p x ≡ true → Contains (filter p xs) x
@@ -45,8 +45,8 @@ Contains-filtered {A} p (y ∷ xs) x within = go (p y) refl within (Contains-fil
     go false e kept later = let was = later kept in (Contains-next y xs x was.0, was.1)
 
 -- what is kept before and after an element that passes
-pub filter-middle : {A : Type 0} (p : A → Bool) (front : List A) (x : A) (back : List A) → p x ≡ true → filter p (front ++ x ∷ back) ≡ filter p front ++ x ∷ filter p back
-filter-middle p front x back passes = filter-append p front (x ∷ back) ∙ ap (λ b. filter p front ++ cond b (x ∷ filter p back) (filter p back)) passes
+pub filter-middle : {A : Type 0} (p : A → Bool) (prefix : List A) (x : A) (back : List A) → p x ≡ true → filter p (prefix ++ x ∷ back) ≡ filter p prefix ++ x ∷ filter p back
+filter-middle p prefix x back passes = filter-append p prefix (x ∷ back) ∙ ap (λ b. filter p prefix ++ cond b (x ∷ filter p back) (filter p back)) passes
 
 -- each element stands once
 abbrev pub AppearOnce : {A : Type 0} → List A → Type 0
@@ -62,25 +62,25 @@ AppearOnce-filter {A} p (x ∷ xs) once = go (p x) (AppearOnce-filter p xs once.
     go false later = later
 
 -- an element that stands once takes the list apart in one way
-pub split-one : {A : Type 0} (front back front' back' : List A) (x : A) → AppearOnce (front ++ x ∷ back) → front ++ x ∷ back ≡ front' ++ x ∷ back' → front ≡ front'
+pub split-one : {A : Type 0} (prefix back prefix' back' : List A) (x : A) → AppearOnce (prefix ++ x ∷ back) → prefix ++ x ∷ back ≡ prefix' ++ x ∷ back' → prefix ≡ prefix'
 split-one [] back [] back' x once same = refl
-split-one {A} [] back (y ∷ front') back' x once same =
-    let later : back ≡ front' ++ x ∷ back' = cc same in
-    absurd (once.0 (subst (λ (l : List A). Contains l x) (sym later) (Contains-middle front' back' x)))
-split-one {A} (y ∷ front) back [] back' x once same =
+split-one {A} [] back (y ∷ prefix') back' x once same =
+    let later : back ≡ prefix' ++ x ∷ back' = cc same in
+    absurd (once.0 (subst (λ (l : List A). Contains l x) (sym later) (Contains-middle prefix' back' x)))
+split-one {A} (y ∷ prefix) back [] back' x once same =
     let first : y ≡ x = cc same in
-    absurd (once.0 (subst (Contains (front ++ x ∷ back)) (sym first) (Contains-middle front back x)))
-split-one (y ∷ front) back (z ∷ front') back' x once same =
+    absurd (once.0 (subst (Contains (prefix ++ x ∷ back)) (sym first) (Contains-middle prefix back x)))
+split-one (y ∷ prefix) back (z ∷ prefix') back' x once same =
     let first : y ≡ z = cc same in
-    let later : front ++ x ∷ back ≡ front' ++ x ∷ back' = cc same in
-    ap (λ w. w ∷ front) first ∙ ap (λ l. z ∷ l) (split-one front back front' back' x once.1 later)
+    let later : prefix ++ x ∷ back ≡ prefix' ++ x ∷ back' = cc same in
+    ap (λ w. w ∷ prefix) first ∙ ap (λ l. z ∷ l) (split-one prefix back prefix' back' x once.1 later)
 
 -- what is kept in front of an element that passes is what stands in front of it among all that is kept
-pub kept-front : {A : Type 0} (p : A → Bool) (xs front back front' back' : List A) (x : A) → xs ≡ front ++ x ∷ back → p x ≡ true → AppearOnce (filter p xs)
-    → filter p xs ≡ front' ++ x ∷ back' → filter p front ≡ front'
-kept-front {A} p xs front back front' back' x parts passes once kept =
-    let whole : filter p xs ≡ filter p front ++ x ∷ filter p back = ap (filter p) parts ∙ filter-middle p front x back passes in
-    split-one (filter p front) (filter p back) front' back' x (subst AppearOnce whole once) (sym whole ∙ kept)
+pub kept-prefix : {A : Type 0} (p : A → Bool) (xs prefix back prefix' back' : List A) (x : A) → xs ≡ prefix ++ x ∷ back → p x ≡ true → AppearOnce (filter p xs)
+    → filter p xs ≡ prefix' ++ x ∷ back' → filter p prefix ≡ prefix'
+kept-prefix {A} p xs prefix back prefix' back' x parts passes once kept =
+    let whole : filter p xs ≡ filter p prefix ++ x ∷ filter p back = ap (filter p) parts ∙ filter-middle p prefix x back passes in
+    split-one (filter p prefix) (filter p back) prefix' back' x (subst AppearOnce whole once) (sym whole ∙ kept)
 
 -- no element at two places
 pub AppearOnce-stands : (es : List Entry) → StandsOnce es → AppearOnce es

@@ -5,7 +5,7 @@ use Rattle.std.proofs.lemmas.Bool.{eqb-true}
 use Rattle.tm_base.specs.declared.events.Entry.{Entry}
 use Rattle.tm_base.specs.Runs.{Leads}
 use Rattle.tm_replay.proofs.SliceLemmas.{Contains-first, Contains-parts}
-use Rattle.tm_order.proofs.Elements.{Contains-none, Contains-head, Contains-next, Contains-middle, Contains-filter, Contains-filtered, AppearOnce, AppearOnce-filter, kept-front}
+use Rattle.tm_order.proofs.Elements.{Contains-none, Contains-head, Contains-next, Contains-middle, Contains-filter, Contains-filtered, AppearOnce, AppearOnce-filter, kept-prefix}
 
 -- the numbers of these events run from this one
 abbrev pub RunFrom : (Entry → ℕ) → ℕ → List Entry → Type 0
@@ -54,10 +54,10 @@ RunFrom-once number a (e ∷ es) run =
 
 -- directly before each event but the first stands the one with the number before
 pub record IsPair (number : Entry → ℕ) (es : List Entry) (e : Entry) : Type 0 where
-  pub front : List Entry
+  pub prefix : List Entry
   pub before : Entry
   pub back : List Entry
-  pub parts : es ≡ front ++ before ∷ (e ∷ back)
+  pub parts : es ≡ prefix ++ before ∷ (e ∷ back)
   pub next : suc (number before) ≡ number e
 
 pub RunFrom-pair : (number : Entry → ℕ) (a : ℕ) (es : List Entry) (e : Entry) → RunFrom number a es → Contains es e → a < number e → IsPair number es e
@@ -70,7 +70,7 @@ RunFrom-pair number a (f ∷ g ∷ es) e run within more = ⊎_elim
     (λ (same : e ≡ f). let is : number e ≡ number f = ap number same in absurd (omega (arith, is, run.0, more)))
     (λ (later : Contains (g ∷ es) e). ⊎_elim
     (λ (same : e ≡ g). record {
-      front = [];
+      prefix = [];
       before = f;
       back = es;
       parts = ap (λ h. f ∷ (h ∷ es)) (sym same);
@@ -79,7 +79,7 @@ RunFrom-pair number a (f ∷ g ∷ es) e run within more = ⊎_elim
     (λ (behind : Contains es e).
     let low = RunFrom-low number (suc (suc a)) es e run.1.1 behind in
     let pair = RunFrom-pair number (suc a) (g ∷ es) e run.1 later (omega (arith, low)) in
-    record { front = f ∷ pair.front; before = pair.before; back = pair.back; parts = ap (λ l. f ∷ l) pair.parts; next = pair.next })
+    record { prefix = f ∷ pair.prefix; before = pair.before; back = pair.back; parts = ap (λ l. f ∷ l) pair.parts; next = pair.next })
     (Contains-first g es e later))
     (Contains-first f (g ∷ es) e within)
 
@@ -87,11 +87,11 @@ RunFrom-before : (number : Entry → ℕ) (a : ℕ) (es : List Entry) (e : Entry
     → (b : Entry) × Contains es b × (suc (number b) ≡ number e)
 RunFrom-before number a es e run within more =
     let pair = RunFrom-pair number a es e run within more in
-    (pair.before, subst (λ (l : List Entry). Contains l pair.before) (sym pair.parts) (Contains-middle pair.front (e ∷ pair.back) pair.before), pair.next)
+    (pair.before, subst (λ (l : List Entry). Contains l pair.before) (sym pair.parts) (Contains-middle pair.prefix (e ∷ pair.back) pair.before), pair.next)
 
 -- each event stands behind the one with the number before
 abbrev pub KeepsNumbers : (Entry → ℕ) → List Entry → Type 0
-KeepsNumbers number es = (front back : List Entry) (p q : Entry) → es ≡ front ++ q ∷ back → Contains es p → suc (number p) ≡ number q → Contains front p
+KeepsNumbers number es = (prefix back : List Entry) (p q : Entry) → es ≡ prefix ++ q ∷ back → Contains es p → suc (number p) ≡ number q → Contains prefix p
 
 -- two lists with the same events, each once, in which each stands behind the one with the number before, are one
 pub one-order : (number : Entry → ℕ) (a : ℕ) (given other : List Entry) → RunFrom number a given → AppearOnce other
@@ -118,22 +118,22 @@ one-order number a (e ∷ given) (f ∷ other) run once less more keeps =
     absurd (omega (arith, low, is, run.0)))
     (λ (later : Contains other g). later)
     (Contains-first f other g (more g (Contains-next e given g within))) in
-    let keeps' : KeepsNumbers number other = λ front back p q parts within next. ⊎_elim
+    let keeps' : KeepsNumbers number other = λ prefix back p q parts within next. ⊎_elim
     (λ (same : p ≡ f). absurd (once.0 (subst (Contains other) same within)))
-    (λ (later : Contains front p). later)
-    (Contains-first f front p (keeps (f ∷ front) back p q (ap (λ l. f ∷ l) parts) (Contains-next f other p within) next)) in
+    (λ (later : Contains prefix p). later)
+    (Contains-first f prefix p (keeps (f ∷ prefix) back p q (ap (λ l. f ∷ l) parts) (Contains-next f other p within) next)) in
     ap (λ g. g ∷ other) first ∙ ap (λ l. e ∷ l) (one-order number (suc a) given other run.1 once.1 less' more' keeps')
 
 -- a list in which each event stands behind its direct predecessors keeps the numbers of the events with one key
 pub keeps-own : (key number : Entry → ℕ) (i : ℕ) (es : List Entry) → AppearOnce es
-    → ((front back : List Entry) (p q : Entry) → es ≡ front ++ q ∷ back → Contains es p → key p ≡ key q → suc (number p) ≡ number q → Contains front p)
+    → ((prefix back : List Entry) (p q : Entry) → es ≡ prefix ++ q ∷ back → Contains es p → key p ≡ key q → suc (number p) ≡ number q → Contains prefix p)
     → KeepsNumbers number (filter (λ e. key e == i) es)
-keeps-own key number i es once keeps front back p q parts within next =
+keeps-own key number i es once keeps prefix back p q parts within next =
     let own : Entry → Bool = λ e. key e == i in
-    let there : Contains (filter own es) q = subst (λ (l : List Entry). Contains l q) (sym parts) (Contains-middle front back q) in
+    let there : Contains (filter own es) q = subst (λ (l : List Entry). Contains l q) (sym parts) (Contains-middle prefix back q) in
     let was = Contains-filtered own es q there in
     let from = Contains-filtered own es p within in
     let cut = Contains-parts es q was.0 in
     let before : Contains cut.0 p = keeps cut.0 cut.1 p q cut.2 from.0 (eqb-true (key p) i from.1 ∙ sym (eqb-true (key q) i was.1)) next in
-    let same : filter own cut.0 ≡ front = kept-front own es cut.0 cut.1 front back q cut.2 was.1 (AppearOnce-filter own es once) parts in
+    let same : filter own cut.0 ≡ prefix = kept-prefix own es cut.0 cut.1 prefix back q cut.2 was.1 (AppearOnce-filter own es once) parts in
     subst (λ (l : List Entry). Contains l p) same (Contains-filter own cut.0 p before from.1)

@@ -84,13 +84,13 @@ module _ (key number : Entry → ℕ) (es : List Entry) (numbered : (i : ℕ) �
       count-filter test (λ e. number e == k) order ∙ sum_by-IsPermutation (λ e. cond (test e && number e == k) 1 0) es order permutation
       ∙ sym (count-filter test (λ e. number e == k) es) ∙ numbered i k low (omega (arith, high, long))
 
--- an element of the front stands once
-twice : (front back : List Entry) (e : Entry) → Contains front e → AppearOnce (front ++ e ∷ back) → ⊥
+-- an element of the prefix stands once
+twice : (prefix back : List Entry) (e : Entry) → Contains prefix e → AppearOnce (prefix ++ e ∷ back) → ⊥
 twice [] back e before once = Contains-none e before
-twice (f ∷ front) back e before once = ⊎_elim
-    (λ (same : e ≡ f). once.0 (subst (Contains (front ++ e ∷ back)) same (Contains-middle front back e)))
-    (λ (later : Contains front e). twice front back e later once.1)
-    (Contains-first f front e before)
+twice (f ∷ prefix) back e before once = ⊎_elim
+    (λ (same : e ≡ f). once.0 (subst (Contains (prefix ++ e ∷ back)) same (Contains-middle prefix back e)))
+    (λ (later : Contains prefix e). twice prefix back e later once.1)
+    (Contains-first f prefix e before)
 
 pub placed-once : (es : List Entry) → IsWellPlaced es → AppearOnce es
 placed-once es placed = key-once (λ e. e.thread) (λ e. e.place) es placed.threads
@@ -102,18 +102,18 @@ placed-permuted es order placed permutation = record {
 }
 
 -- the one before stands once, so it isn't the one that stands behind
-pub placed-apart : (es front back : List Entry) (a b : Entry) → IsWellPlaced es → es ≡ front ++ b ∷ back → Contains front a
+pub placed-apart : (es prefix back : List Entry) (a b : Entry) → IsWellPlaced es → es ≡ prefix ++ b ∷ back → Contains prefix a
     → (a.thread ≡ b.thread → a.place ≡ b.place → ⊥) × (a.object ≡ b.object → a.at ≡ b.at → ⊥)
-placed-apart es front back a b placed parts before = (
+placed-apart es prefix back a b placed parts before = (
   λ keys numbers. apart (key-one (λ e. e.thread) (λ e. e.place) es placed.threads a b first second keys numbers),
   λ keys numbers. apart (key-one (λ e. e.object) (λ e. e.at) es placed.objects a b first second keys numbers),
 )
   where
     first : Contains es a
-    first = subst (λ (l : List Entry). Contains l a) (sym parts) (Contains-append_left front (b ∷ back) a before)
+    first = subst (λ (l : List Entry). Contains l a) (sym parts) (Contains-append_left prefix (b ∷ back) a before)
 
     second : Contains es b
-    second = subst (λ (l : List Entry). Contains l b) (sym parts) (Contains-middle front back b)
+    second = subst (λ (l : List Entry). Contains l b) (sym parts) (Contains-middle prefix back b)
 
     apart : a ≡ b → ⊥
-    apart same = twice front back b (subst (Contains front) same before) (subst AppearOnce parts (placed-once es placed))
+    apart same = twice prefix back b (subst (Contains prefix) same before) (subst AppearOnce parts (placed-once es placed))

@@ -75,40 +75,40 @@ all-shown es shown held placed rises permutation none =
     none
 
 -- what holds of each element and of those behind it
-pairs-behind : {A : Type 0} (R : A → A → Type 0) (xs : List A) → ((front back : List A) (a b : A) → xs ≡ front ++ a ∷ back → Contains back b → R a b) → AllPairs R xs
+pairs-behind : {A : Type 0} (R : A → A → Type 0) (xs : List A) → ((prefix back : List A) (a b : A) → xs ≡ prefix ++ a ∷ back → Contains back b → R a b) → AllPairs R xs
 pairs-behind R [] behind i k d less within = absurd (omega (arith, within))
 pairs-behind R (x ∷ xs) behind zero zero d less within = absurd (omega (arith, less))
 pairs-behind R (x ∷ xs) behind (suc i) zero d less within = absurd (omega (arith, less))
 pairs-behind R (x ∷ xs) behind zero (suc k) d less within = behind [] xs x _ refl (Contains-get_or xs k d (omega (arith, within)))
 pairs-behind R (x ∷ xs) behind (suc i) (suc k) d less within =
-    pairs-behind R xs (λ front back a b parts there. behind (x ∷ front) back a b (ap (λ l. x ∷ l) parts) there) i k d (omega (arith, less)) (omega (arith, within))
+    pairs-behind R xs (λ prefix back a b parts there. behind (x ∷ prefix) back a b (ap (λ l. x ∷ l) parts) there) i k d (omega (arith, less)) (omega (arith, within))
 
 module _ (es : List Entry) (complete : AreComplete es) (soonest : ShowsSoonest es) where
   -- what is directly before is in front, or the event isn't sooner than the one shown
-  front-before : (key number : Entry → ℕ) (front back : List Entry) (a b : Entry) → es ≡ front ++ a ∷ back
+  prefix-before : (key number : Entry → ℕ) (prefix back : List Entry) (a b : Entry) → es ≡ prefix ++ a ∷ back
       → ((c : Entry) → Contains back c → c.stamp < b.stamp → IsNotLater a c) → HasBefore key number es b
-      → IsNotLater a b ⊎ ((number b ≤ 1) ⊎ IsShownBefore key number front b)
-  front-before key number front back a b parts sooner (inl first) = inr (inl first)
-  front-before key number front back a b parts sooner (inr at) = ⊎_elim
-      (λ (there : Contains front at.0). inr (inr (at.0, there, at.2, at.3)))
+      → IsNotLater a b ⊎ ((number b ≤ 1) ⊎ IsShownBefore key number prefix b)
+  prefix-before key number prefix back a b parts sooner (inl first) = inr (inl first)
+  prefix-before key number prefix back a b parts sooner (inr at) = ⊎_elim
+      (λ (there : Contains prefix at.0). inr (inr (at.0, there, at.2, at.3)))
       (λ (behind : Contains (a ∷ back) at.0). ⊎_elim
       (λ (same : at.0 ≡ a). inl (inl (subst (λ (c : Entry). c.stamp < b.stamp) same at.4)))
       (λ (later : Contains back at.0).
       let least = not_later-stamps a at.0 (sooner at.0 later at.4) in
       inl (inl (omega (arith, least, at.4))))
       (Contains-first a back at.0 behind))
-      (Contains-append_cases front (a ∷ back) at.0 (subst (λ (l : List Entry). Contains l at.0) parts at.1))
+      (Contains-append_cases prefix (a ∷ back) at.0 (subst (λ (l : List Entry). Contains l at.0) parts at.1))
 
-  not_later : (n : ℕ) (front back : List Entry) (a b : Entry) → es ≡ front ++ a ∷ back → b.stamp < n → Contains back b → IsNotLater a b
-  not_later zero front back a b parts less there = absurd (omega (arith, less))
-  not_later (suc n) front back a b parts less there =
-      let sooner : (c : Entry) → Contains back c → c.stamp < b.stamp → IsNotLater a c = λ c also smaller. not_later n front back a c parts (omega (arith, less, smaller)) also in
-      let within : Contains es b = subst (λ (l : List Entry). Contains l b) (sym parts) (Contains-append_right front (a ∷ back) b (Contains-next a back b there)) in
+  not_later : (n : ℕ) (prefix back : List Entry) (a b : Entry) → es ≡ prefix ++ a ∷ back → b.stamp < n → Contains back b → IsNotLater a b
+  not_later zero prefix back a b parts less there = absurd (omega (arith, less))
+  not_later (suc n) prefix back a b parts less there =
+      let sooner : (c : Entry) → Contains back c → c.stamp < b.stamp → IsNotLater a c = λ c also smaller. not_later n prefix back a c parts (omega (arith, less, smaller)) also in
+      let within : Contains es b = subst (λ (l : List Entry). Contains l b) (sym parts) (Contains-append_right prefix (a ∷ back) b (Contains-next a back b there)) in
       ⊎_elim (λ (done : IsNotLater a b). done)
-      (λ (thread : (b.place ≤ 1) ⊎ IsShownBefore (λ c. c.thread) (λ c. c.place) front b). ⊎_elim (λ (done : IsNotLater a b). done)
-      (λ (object : (b.at ≤ 1) ⊎ IsShownBefore (λ c. c.object) (λ c. c.at) front b). soonest front back a b parts there (record { thread = thread; object = object }))
-      (front-before (λ c. c.object) (λ c. c.at) front back a b parts sooner (complete.objects b within)))
-      (front-before (λ c. c.thread) (λ c. c.place) front back a b parts sooner (complete.threads b within))
+      (λ (thread : (b.place ≤ 1) ⊎ IsShownBefore (λ c. c.thread) (λ c. c.place) prefix b). ⊎_elim (λ (done : IsNotLater a b). done)
+      (λ (object : (b.at ≤ 1) ⊎ IsShownBefore (λ c. c.object) (λ c. c.at) prefix b). soonest prefix back a b parts there (record { thread = thread; object = object }))
+      (prefix-before (λ c. c.object) (λ c. c.at) prefix back a b parts sooner (complete.objects b within)))
+      (prefix-before (λ c. c.thread) (λ c. c.place) prefix back a b parts sooner (complete.threads b within))
 
   pub soonest-sorts : IsInStampOrder es
-  soonest-sorts = pairs-behind IsNotLater es (λ front back a b parts there. not_later (suc b.stamp) front back a b parts (omega arith) there)
+  soonest-sorts = pairs-behind IsNotLater es (λ prefix back a b parts there. not_later (suc b.stamp) prefix back a b parts (omega arith) there)

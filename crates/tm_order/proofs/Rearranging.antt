@@ -37,7 +37,7 @@ direct-object a b keys numbers =
 -- the list has of one key the given events, in the order of their numbers
 pub own-order : (key number : Entry → ℕ) (i : ℕ) (given es : List Entry) → RunFrom number 1 given → AppearOnce es
     → ((e : Entry) → Contains given e → Contains es e × (key e ≡ i)) → ((e : Entry) → Contains es e → key e ≡ i → Contains given e)
-    → ((front back : List Entry) (p q : Entry) → es ≡ front ++ q ∷ back → Contains es p → key p ≡ key q → suc (number p) ≡ number q → Contains front p)
+    → ((prefix back : List Entry) (p q : Entry) → es ≡ prefix ++ q ∷ back → Contains es p → key p ≡ key q → suc (number p) ≡ number q → Contains prefix p)
     → filter (λ e. key e == i) es ≡ given
 own-order key number i given es run once into from keeps =
     one-order number 1 given (filter (λ e. key e == i) es) run (AppearOnce-filter (λ e. key e == i) es once)
@@ -79,7 +79,7 @@ module _ (x : ExerciseView) where
         own-order (λ e. e.thread) (λ e. e.place) t (of_thread es t) order (thread-numbered x t (of_thread es t) seat.0 seat.1) once
         (λ e within. let was = Contains-filtered (λ f. f.thread == t) es e within in (into e was.0, eqb-true e.thread t was.1))
         (λ e within same. Contains-filter (λ f. f.thread == t) es e (from e within) (eq-eqb e.thread t same))
-        (λ front back p q parts within keys numbers. keeps front back p q parts within (direct-thread p q keys numbers))
+        (λ prefix back p q parts within keys numbers. keeps prefix back p q parts within (direct-thread p q keys numbers))
 
     same-objects : (o : ℕ) → o < length x.objects → of_object order o ≡ of_object es o
     same-objects o known =
@@ -88,7 +88,7 @@ module _ (x : ExerciseView) where
         own-order (λ e. e.object) (λ e. e.at) o (of_object es o) order (object-numbered x (label_of x o d.0) (of_object es o) place.0 place.1) once
         (λ e within. let was = Contains-filtered (λ f. f.object == o) es e within in (into e was.0, eqb-true e.object o was.1))
         (λ e within same. Contains-filter (λ f. f.object == o) es e (from e within) (eq-eqb e.object o same))
-        (λ front back p q parts within keys numbers. keeps front back p q parts within (direct-object p q keys numbers))
+        (λ prefix back p q parts within keys numbers. keeps prefix back p q parts within (direct-object p q keys numbers))
 
     pub rearranged : IsJointRun x order j
     rearranged =
@@ -103,6 +103,6 @@ module _ (x : ExerciseView) where
 
   -- in a joint run each event stands after its direct predecessors
   pub run-keeps : (es : List Entry) (j : JointState) → IsJointRun x es j → KeepsPredecessors es
-  run-keeps es j run front back a b parts within direct =
-      let there : Contains es b = subst (λ (l : List Entry). Contains l b) (sym parts) (Contains-middle front back b) in
-      (prefixes-are_closed x es j run es [] (sym (append-nil es))).closed front back a b parts ([], (within, there, direct))
+  run-keeps es j run prefix back a b parts within direct =
+      let there : Contains es b = subst (λ (l : List Entry). Contains l b) (sym parts) (Contains-middle prefix back b) in
+      (prefixes-are_closed x es j run es [] (sym (append-nil es))).closed prefix back a b parts ([], (within, there, direct))

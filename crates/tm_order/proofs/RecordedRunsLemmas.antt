@@ -21,11 +21,11 @@ use Rattle.tm_order.proofs.InterleavingsLemmas.{AreBeginnings, interleave}
 
 -- the pair's first event is the last one before the second
 pair-parts : (number : Entry → ℕ) (es : List Entry) (e : Entry) (pair : IsPair number es e)
-    → (es ≡ (pair.front ++ pair.before ∷ []) ++ e ∷ pair.back) × (last_stamp (pair.front ++ pair.before ∷ []) ≡ pair.before.stamp) × Contains es pair.before
+    → (es ≡ (pair.prefix ++ pair.before ∷ []) ++ e ∷ pair.back) × (last_stamp (pair.prefix ++ pair.before ∷ []) ≡ pair.before.stamp) × Contains es pair.before
 pair-parts number es e pair = (
-  pair.parts ∙ sym (append_assoc pair.front (pair.before ∷ []) (e ∷ pair.back)),
-  fold_push (λ n f. f.stamp) 0 pair.front pair.before,
-  subst (λ (l : List Entry). Contains l pair.before) (sym pair.parts) (Contains-middle pair.front (e ∷ pair.back) pair.before),
+  pair.parts ∙ sym (append_assoc pair.prefix (pair.before ∷ []) (e ∷ pair.back)),
+  fold_push (λ n f. f.stamp) 0 pair.prefix pair.before,
+  subst (λ (l : List Entry). Contains l pair.before) (sym pair.parts) (Contains-middle pair.prefix (e ∷ pair.back) pair.before),
 )
 
 module _ (x : ExerciseView) (made seen : ℕ → List Entry) (recorded : IsRecorded x made seen) (clocked : IsClocked made seen) where
@@ -40,7 +40,7 @@ module _ (x : ExerciseView) (made seen : ℕ → List Entry) (recorded : IsRecor
             let pair = RunFrom-pair (λ a. a.place) 1 (made e.thread) e (thread-numbered x e.thread (made e.thread) run.0 run.1) (theirs.thread e within) above in
             let parts = pair-parts (λ a. a.place) (made e.thread) e pair in
             let place = Contains-parts (seen e.object) e (theirs.object e within) in
-            let stamp = clocked e (pair.front ++ pair.before ∷ []) pair.back place.0 place.1 parts.0 place.2 in
+            let stamp = clocked e (pair.prefix ++ pair.before ∷ []) pair.back place.0 place.1 parts.0 place.2 in
             let less : pair.before.stamp < e.stamp = omega (arith, stamp, parts.1) in
             inr (pair.before, theirs.threads e.thread pair.before known parts.2, thread-own x e.thread (made e.thread) run.0 run.1 pair.before parts.2, pair.next, less)
 
@@ -55,7 +55,7 @@ module _ (x : ExerciseView) (made seen : ℕ → List Entry) (recorded : IsRecor
             let pair = RunFrom-pair (λ a. a.at) 1 (seen e.object) e (object-numbered x (label_of x e.object d.0) (seen e.object) run.0 run.1) (theirs.object e within) above in
             let parts = pair-parts (λ a. a.at) (seen e.object) e pair in
             let place = Contains-parts (made e.thread) e (theirs.thread e within) in
-            let stamp = clocked e place.0 place.1 (pair.front ++ pair.before ∷ []) pair.back place.2 parts.0 in
+            let stamp = clocked e place.0 place.1 (pair.prefix ++ pair.before ∷ []) pair.back place.2 parts.0 in
             let less : pair.before.stamp < e.stamp = omega (arith, stamp, parts.1) in
             inr (pair.before, theirs.objects e.object pair.before known parts.2, object-own x (label_of x e.object d.0) (seen e.object) run.0 run.1 pair.before parts.2, pair.next, less)
 
@@ -69,7 +69,7 @@ module _ (x : ExerciseView) (made seen : ℕ → List Entry) (recorded : IsRecor
           own-order (λ e. e.thread) (λ e. e.place) t (made t) es (thread-numbered x t (made t) run.0 run.1) once
           (λ e within. (theirs.threads t e known within, thread-own x t (made t) run.0 run.1 e within))
           (λ e within same. subst (λ (u : ℕ). Contains (made u) e) same (theirs.thread e within))
-          (λ front back p q parts within keys numbers. keeps front back p q parts within (direct-thread p q keys numbers))
+          (λ prefix back p q parts within keys numbers. keeps prefix back p q parts within (direct-thread p q keys numbers))
 
       whole-object : (o : ℕ) → o < length x.objects → of_object es o ≡ seen o
       whole-object o known =
@@ -78,7 +78,7 @@ module _ (x : ExerciseView) (made seen : ℕ → List Entry) (recorded : IsRecor
           own-order (λ e. e.object) (λ e. e.at) o (seen o) es (object-numbered x (label_of x o d.0) (seen o) run.0 run.1) once
           (λ e within. (theirs.objects o e known within, object-own x (label_of x o d.0) (seen o) run.0 run.1 e within))
           (λ e within same. subst (λ (u : ℕ). Contains (seen u) e) same (theirs.object e within))
-          (λ front back p q parts within keys numbers. keeps front back p q parts within (direct-object p q keys numbers))
+          (λ prefix back p q parts within keys numbers. keeps prefix back p q parts within (direct-object p q keys numbers))
 
       whole-run : IsWholeRun x made seen es []
       whole-run =

@@ -25,14 +25,14 @@ not_later-stamps a b (inl less) = omega (arith, less)
 not_later-stamps a b (inr tie) = omega (arith, tie.0)
 
 -- in stamp order an event isn't later than those behind it
-order-behind : (es : List Entry) → IsInStampOrder es → (front back : List Entry) (a b : Entry) → es ≡ front ++ a ∷ back → Contains back b → IsNotLater a b
-order-behind es order front back a b parts behind =
-    let there : length front + suc behind.0 < length es = subst (λ (l : List Entry). length front + suc behind.0 < length l) (sym parts) (omega (arith, length-append front (a ∷ back), behind.1)) in
-    let pair : IsNotLater (get_or es (length front) b) (get_or es (length front + suc behind.0) b) = order (length front) (length front + suc behind.0) b (omega arith) there in
-    let first : get_or es (length front) b ≡ a = ap (λ (l : List Entry). get_or l (length front) b) parts ∙ get_or_at front a back b (length front) refl in
-    let second : get_or es (length front + suc behind.0) b ≡ b =
-    ap (λ (l : List Entry). get_or l (length front + suc behind.0) b) parts ∙ get_or-append-add front (a ∷ back) (suc behind.0) b ∙ behind.2 in
-    subst (λ (e : Entry). IsNotLater e b) first (subst (IsNotLater (get_or es (length front) b)) second pair)
+order-behind : (es : List Entry) → IsInStampOrder es → (prefix back : List Entry) (a b : Entry) → es ≡ prefix ++ a ∷ back → Contains back b → IsNotLater a b
+order-behind es order prefix back a b parts behind =
+    let there : length prefix + suc behind.0 < length es = subst (λ (l : List Entry). length prefix + suc behind.0 < length l) (sym parts) (omega (arith, length-append prefix (a ∷ back), behind.1)) in
+    let pair : IsNotLater (get_or es (length prefix) b) (get_or es (length prefix + suc behind.0) b) = order (length prefix) (length prefix + suc behind.0) b (omega arith) there in
+    let first : get_or es (length prefix) b ≡ a = ap (λ (l : List Entry). get_or l (length prefix) b) parts ∙ get_or_at prefix a back b (length prefix) refl in
+    let second : get_or es (length prefix + suc behind.0) b ≡ b =
+    ap (λ (l : List Entry). get_or l (length prefix + suc behind.0) b) parts ∙ get_or-append-add prefix (a ∷ back) (suc behind.0) b ∙ behind.2 in
+    subst (λ (e : Entry). IsNotLater e b) first (subst (IsNotLater (get_or es (length prefix) b)) second pair)
 
 -- along a chain the stamps rise
 chain-rises : (es : List Entry) → StampsRise es → (between : List Entry) (a b : Entry) → IsChain es a between b → (a.stamp < b.stamp) × Contains es a × Contains es b
@@ -45,18 +45,18 @@ chain-rises es rises (m ∷ between) a b chain =
 order-extends : (es order : List Entry) → StampsRise es → IsPermutation es order → IsInStampOrder order → IsLinearExtension es order
 order-extends es order rises permutation sorted = record { permutation = permutation; after = after }
   where
-    after : (front back : List Entry) (a b : Entry) → order ≡ front ++ b ∷ back → HappenedBefore es a b → Contains front a
-    after front back a b parts before =
+    after : (prefix back : List Entry) (a b : Entry) → order ≡ prefix ++ b ∷ back → HappenedBefore es a b → Contains prefix a
+    after prefix back a b parts before =
         let rise = chain-rises es rises before.0 a b before.1 in
-        let there : Contains (front ++ b ∷ back) a = subst (λ (l : List Entry). Contains l a) parts (Contains-permutation es order a permutation rise.1) in
-        ⊎_elim (λ (first : Contains front a). first)
+        let there : Contains (prefix ++ b ∷ back) a = subst (λ (l : List Entry). Contains l a) parts (Contains-permutation es order a permutation rise.1) in
+        ⊎_elim (λ (first : Contains prefix a). first)
         (λ (behind : Contains (b ∷ back) a). ⊎_elim
         (λ (same : a ≡ b). let is : a.stamp ≡ b.stamp = ap (λ (e : Entry). e.stamp) same in absurd (omega (arith, rise.0, is)))
         (λ (later : Contains back a).
-        let least = not_later-stamps b a (order-behind order sorted front back b a parts later) in
+        let least = not_later-stamps b a (order-behind order sorted prefix back b a parts later) in
         absurd (omega (arith, rise.0, least)))
         (Contains-first b back a behind))
-        (Contains-append_cases front (b ∷ back) a there)
+        (Contains-append_cases prefix (b ∷ back) a there)
 
 module _ (es : List Entry) (placed : IsWellPlaced es) (rises : StampsRise es) where
   -- in one thread the stamps rise with the places
@@ -155,10 +155,10 @@ stamped-rises es stamped a b first second direct =
 
 -- a linear extension of happened-before keeps direct predecessors
 pub extension-keeps : (es order : List Entry) → IsLinearExtension es order → KeepsPredecessors order
-extension-keeps es order extension front back a b parts within direct =
+extension-keeps es order extension prefix back a b parts within direct =
     let back' = IsPermutation-sym es order extension.permutation in
-    let there : Contains order b = subst (λ (l : List Entry). Contains l b) (sym parts) (Contains-middle front back b) in
-    extension.after front back a b parts ([], (Contains-permutation order es a back' within, Contains-permutation order es b back' there, direct))
+    let there : Contains order b = subst (λ (l : List Entry). Contains l b) (sym parts) (Contains-middle prefix back b) in
+    extension.after prefix back a b parts ([], (Contains-permutation order es a back' within, Contains-permutation order es b back' there, direct))
 
 pub run-sorts : (x : ExerciseView) (es order : List Entry) (j : JointState) → IsJointRun x es j → IsPermutation es order → IsInStampOrder order → IsJointRun x order j
 run-sorts x es order j run permutation sorted =

@@ -8,13 +8,13 @@ use Rattle.tm_replay.specs.JointSteps.{IsJointRun}
 
 -- Each event stands after those events of the list that are its direct predecessors.
 abbrev pub KeepsPredecessors : List Entry → Type 0
-KeepsPredecessors es = (front back : List Entry) (a b : Entry) → es ≡ front ++ b ∷ back → Contains es a → IsDirect a b → Contains front a
+KeepsPredecessors es = (prefix back : List Entry) (a b : Entry) → es ≡ prefix ++ b ∷ back → Contains es a → IsDirect a b → Contains prefix a
 
 -- The order has the events, each after all that happened before it: it is a linear extension of
 -- happened-before (Lamport, CACM 1978).
 pub record IsLinearExtension (events order : List Entry) : Type 0 where
   pub permutation : IsPermutation events order
-  pub after : (front back : List Entry) (a b : Entry) → order ≡ front ++ b ∷ back → HappenedBefore events a b → Contains front a
+  pub after : (prefix back : List Entry) (a b : Entry) → order ≡ prefix ++ b ∷ back → HappenedBefore events a b → Contains prefix a
 
 -- An order of the events that keeps direct predecessors keeps all that happened before.
 abbrev pub PredecessorsAreEnough : Type 0

@@ -13,5 +13,5 @@ AreApartAtObject a b = a.object ≡ b.object → a.at ≡ b.at → ⊥
 
 -- In a well placed list an event shares no place with one before it.
 abbrev pub PlacesAreApart : Type 0
-PlacesAreApart = (es front back : List Entry) (a b : Entry) → IsWellPlaced es → es ≡ front ++ b ∷ back → Contains front a
+PlacesAreApart = (es prefix back : List Entry) (a b : Entry) → IsWellPlaced es → es ≡ prefix ++ b ∷ back → Contains prefix a
     → AreApartInThread a b × AreApartAtObject a b

@@ -24,7 +24,7 @@ AllEventsAreShown = (es shown held : List Entry) → IsWellPlaced es → StampsR
 
 -- Each time an event was shown none of those that were ready is sooner by stamp and thread number.
 abbrev pub ShowsSoonest : List Entry → Type 0
-ShowsSoonest es = (front back : List Entry) (a b : Entry) → es ≡ front ++ a ∷ back → Contains back b → IsReadyAfter front b → IsNotLater a b
+ShowsSoonest es = (prefix back : List Entry) (a b : Entry) → es ≡ prefix ++ a ∷ back → Contains back b → IsReadyAfter prefix b → IsNotLater a b
 
 -- Well placed events whose stamps rise, each time the soonest of those ready, stand in the order by stamp.
 abbrev pub SoonestFirstSorts : Type 0
