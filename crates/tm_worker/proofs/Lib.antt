@@ -5,3 +5,4 @@ pub mod StandingsLemmas
 pub mod StepsLemmas
 pub mod TurnsLemmas
 pub mod RunLemmas
+pub mod TestsLemmas

@@ -212,3 +212,11 @@ module _ {B : Type 0} (asked : B → Reply → Ask) (rest : B → Reply → B) (
     pub turn_of : (shared : List TurnView) → own ≡ is_own_at shared old.ticket.thread → (t : Turned) (s' : ProgressView B) (new : LogView)
         → Tries (is_own_at shared mid.ticket.thread) s0 mid t s' new → Turns asked rest limit own s old t s' new
     turn_of shared is t s' new tries = turn_done t s' new (subst (λ (o : ℕ → Bool). Tries o s0 mid t s' new) (own_same shared ∙ sym is) tries)
+
+-- a turn leaves the thread
+pub turn_thread : {B : Type 0} (asked : B → Reply → Ask) (rest : B → Reply → B) (limit : ℕ) (own : ℕ → Bool) (s : ProgressView B) (old : LogView) (t : Turned) (s' : ProgressView B) (new : LogView)
+    → Turns asked rest limit own s old t s' new → new.ticket.thread ≡ old.ticket.thread
+turn_thread asked rest limit own s old (turned.Made e) s' new h = ap (λ (x : TicketView). x.thread) h.1.step.ticket
+turn_thread asked rest limit own s old turned.NotYet s' new h = ap (λ (x : TicketView). x.thread) h.1.ticket
+turn_thread asked rest limit own s old (turned.Busy k) s' new h = ap (λ (x : TicketView). x.thread) h.1.ticket
+turn_thread asked rest limit own s old turned.Over s' new h = ap (λ (l : LogView). l.ticket.thread) h.1

@@ -6,6 +6,8 @@ mod logs;
 mod phases;
 mod progresses;
 mod steps;
+#[cfg(test)]
+mod tests;
 mod turned;
 mod turns;
 mod workers;

@@ -153,9 +153,9 @@ fn try_finish(
 {
     let k = object as usize;
     match shared[k].try_finish(&mut passes[k], ticket) {
-        Ok(entry) => {
-            outbox.send(entry);
-            Ok(entry)
+        Ok(resume) => {
+            outbox.send(resume);
+            Ok(resume)
         }
         Err(fault) => Err(fault),
     }

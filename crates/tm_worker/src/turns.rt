@@ -29,6 +29,7 @@ pub(crate) fn turn<B: Body, G: Gate>(
     requires body { B.is_for (kinds_of shared.now) progress.old.body }
     ensures stands { Stands B.over limit progress.new log.new }
     ensures passes { AreSamePasses log.old.passes log.new.passes }
+    ensures thread { log.new.ticket.thread ≡ log.old.ticket.thread }
     ensures stays { (kinds : List Kind) → B.is_for kinds progress.old.body → B.is_for kinds progress.new.body }
     ensures turns { Turns B.asked B.rest limit (is_own_at shared.now log.old.ticket.thread) progress.old log.old result progress.new log.new }
     ensures over { is_over result ≡ is_done progress.old log.old }

@@ -105,6 +105,7 @@ impl<B: Body> Worker<B> {
         ensures turns { Turns B.asked B.rest self.old.limit (is_own_at shared.now self.old.log.ticket.thread) self.old.progress self.old.log result self.new.progress self.new.log }
         ensures over { is_over result ≡ is_done self.old.progress self.old.log }
         ensures passes { AreSamePasses self.old.log.passes self.new.log.passes }
+        ensures thread { self.new.log.ticket.thread ≡ self.old.log.ticket.thread }
         ensures limit { self.new.limit ≡ self.old.limit }
         ensures stays { (kinds : List Kind) → B.is_for kinds self.old.progress.body → B.is_for kinds self.new.progress.body }
     {

@@ -38,21 +38,21 @@ pub returns-in-Ok-clause-keeps : goal.returns-in-Ok-clause-keeps
 returns-in-Ok-clause-keeps c =
     let within = c.requires.keeps.there c.args.object c.requires.here in
     sent_keeps c.args.shared.now c.args.passes.now.items c.args.ticket.now c.args.outbox.now c.args.object c.index-shared-k.result c.index_mut.result.now
-    c.requires.suits c.requires.keeps within c.index-shared-k.is c.index_mut.ensures.value c.try_finish.new.pass c.try_finish.new.ticket op.Resume c.in-Ok.entry
+    c.requires.suits c.requires.keeps within c.index-shared-k.is c.index_mut.ensures.value c.try_finish.new.pass c.try_finish.new.ticket op.Resume c.in-Ok.resume
     c.in-Ok.ensures.turn c.in-Ok.ensures.added c.send.new.self.sent (ap (λ (x : OutboxView). x.sent) c.send.ensures.sent) (only_here c.args.ticket.now c.args.object c.requires.here)
 
 pub returns-in-Ok-clause-passes : goal.returns-in-Ok-clause-passes
 returns-in-Ok-clause-passes c =
     let within = c.requires.keeps.there c.args.object c.requires.here in
     sent_passes c.args.shared.now c.args.passes.now.items c.args.ticket.now c.args.outbox.now c.args.object c.index-shared-k.result c.index_mut.result.now
-    c.requires.suits c.requires.keeps within c.index-shared-k.is c.index_mut.ensures.value c.try_finish.new.pass c.try_finish.new.ticket op.Resume c.in-Ok.entry
+    c.requires.suits c.requires.keeps within c.index-shared-k.is c.index_mut.ensures.value c.try_finish.new.pass c.try_finish.new.ticket op.Resume c.in-Ok.resume
     c.in-Ok.ensures.turn c.in-Ok.ensures.added
 
 pub returns-in-Ok-clause-sent : goal.returns-in-Ok-clause-sent
 returns-in-Ok-clause-sent c =
     let within = c.requires.keeps.there c.args.object c.requires.here in
     sent_log c.args.shared.now c.args.passes.now.items c.args.ticket.now c.args.outbox.now c.args.object c.index-shared-k.result c.index_mut.result.now
-    c.requires.suits c.requires.keeps within c.index-shared-k.is c.index_mut.ensures.value c.try_finish.new.pass c.try_finish.new.ticket op.Resume c.in-Ok.entry
+    c.requires.suits c.requires.keeps within c.index-shared-k.is c.index_mut.ensures.value c.try_finish.new.pass c.try_finish.new.ticket op.Resume c.in-Ok.resume
     c.in-Ok.ensures.turn c.in-Ok.ensures.added c.send.new.self (only_here c.args.ticket.now c.args.object c.requires.here) (ap (λ (x : OutboxView). x.sent) c.send.ensures.sent) (ap (λ (x : OutboxView). x.ring) c.send.ensures.sent) c.send.ensures.spare
 
 pub returns-in-Err-clause-keeps : goal.returns-in-Err-clause-keeps
@@ -78,4 +78,4 @@ returns-in-Err-clause-fault c =
 
 pub returns-in-Ok-clause-free : goal.returns-in-Ok-clause-free
 returns-in-Ok-clause-free c =
-    resumed_free c.index-shared-k.result.label c.index_mut.result.now c.try_finish.new.pass c.args.ticket.now c.try_finish.new.ticket c.in-Ok.entry c.in-Ok.ensures.turn c.in-Ok.ensures.added
+    resumed_free c.index-shared-k.result.label c.index_mut.result.now c.try_finish.new.pass c.args.ticket.now c.try_finish.new.ticket c.in-Ok.resume c.in-Ok.ensures.turn c.in-Ok.ensures.added
