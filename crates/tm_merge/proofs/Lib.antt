@@ -5,7 +5,9 @@ pub mod IndexLemmas
 pub mod RefusalLemmas
 pub mod ArrivingLemmas
 pub mod KeepsLemmas
+pub mod ListingLemmas
 pub mod ReadyLemmas
+pub mod ReadyThreadsLemmas
 pub mod SettlingLemmas
 pub mod ShowingLemmas
 pub mod OrderLemmas

@@ -47,6 +47,12 @@ pub record IsReadyAt (a : Arrivals) (e : Entry) (s : ℕ) : Type 0 where
   pub thread : (l : Line) → slice_get a.threads.items e.thread ≡ Some l → (e.place ≡ suc l.shown) × (slot_at l e.place ≡ Some s)
   pub object : (o : Line) → slice_get a.objects.items e.object ≡ Some o → e.at ≡ suc o.shown
 
+-- the slot of the event is the one that the object's line names next
+pub record IsNextSlot (a : Arrivals) (o : Line) (e : Entry) (s : ℕ) : Type 0 where
+  pub there : slice_get a.slots.items s ≡ Some (Some e)
+  pub slot : slot_at o (suc o.shown) ≡ Some s
+  pub fits : suc o.shown < 2 ^ 64
+
 module _ (a : Arrivals) (keeps : KeepsArrivals a) where
   pub ready_at : (e : Entry) → IsReady (view_of a) e → (s : ℕ) × IsReadyAt a e s
   ready_at e ready =
@@ -59,6 +65,14 @@ module _ (a : Arrivals) (keeps : KeepsArrivals a) where
           object = λ o at. next_number (λ e. e.object) (λ e. e.at) a.objects.items a.shown.items a.slots.items keeps.objects keeps.object_tails keeps.numbered.objects slot.0 e o slot.1 at both.1;
         },
       )
+
+  pub next_slot : (k : ℕ) (o : Line) → slice_get a.objects.items k ≡ Some o → (e : Entry) → IsReady (view_of a) e → e.object ≡ k → (s : ℕ) × IsNextSlot a o e s
+  next_slot k o at_k e ready same =
+      let place = ready_at e ready in
+      let at_o = subst (λ i. slice_get a.objects.items i ≡ Some o) (sym same) at_k in
+      let slot = slot_named (λ e. e.object) (λ e. e.at) a.objects.items a.shown.items a.slots.items keeps.objects keeps.object_tails keeps.numbered.objects place.0 e o place.1.there at_o in
+      let here : slot_at o (suc o.shown) ≡ Some place.0 = subst (λ n. slot_at o n ≡ Some place.0) (place.1.object o at_o) slot in
+      (place.0, record { there = place.1.there; slot = here; fits = (keeps.objects.known k (suc o.shown) place.0 o at_k here).fits })
 
   pub ready_from : (s : ℕ) (e : Entry) (l o : Line) → slice_get a.slots.items s ≡ Some (Some e) → slice_get a.threads.items e.thread ≡ Some l → slice_get a.objects.items e.object ≡ Some o
       → e.place ≡ suc l.shown → e.at ≡ suc o.shown → IsReady (view_of a) e
@@ -111,14 +125,13 @@ module _ (a : Arrivals) (keeps : KeepsArrivals a) where
             let ats : d.at ≡ e.at = ap (λ (x : Entry). x.at) is in
             differs (omega (arith, at, ats))
 
-        pub is_ready : e.at - 1 ≡ o.shown → IsReadyIn a t s
+        pub is_ready : e.at - 1 ≡ o.shown → IsReadyIn a t (record { slot = s; entry = e })
         is_ready equal =
             let has = keeps.threads.known t (suc l.shown) s l at_l slot in
             let same : has.entry ≡ e = let own = has.there in cc in
             let in_thread : e.thread ≡ t = ap (λ (x : Entry). x.thread) (sym same) ∙ has.line_is in
             let place : e.place ≡ suc l.shown = ap (λ (x : Entry). x.place) (sym same) ∙ has.number_is in
             record {
-              entry = e;
               there = there;
               ready = ready_from s e l o there (subst (λ k. slice_get a.threads.items k ≡ Some l) (sym in_thread) at_l) at_o place (let positive = at_positive in omega (arith, positive, equal));
               thread = in_thread;

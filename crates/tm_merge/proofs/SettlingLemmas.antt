@@ -6,11 +6,12 @@ use Rattle.tm_base.specs.Runs.{Leads}
 use Rattle.tm_merge.specs.declared.arrivals.Arrivals.{Arrivals}
 use Rattle.tm_merge.specs.MergerViews.{MergerView}
 use Rattle.tm_merge.specs.Showing.{Shows}
-use Rattle.tm_merge.specs.StoredArrivals.{KeepsArrivals, view_of}
+use Rattle.tm_merge.specs.ReadyThreads.{KeepsAll}
+use Rattle.tm_merge.specs.StoredArrivals.{view_of}
 
 -- From the first arrivals this many events were shown, each time the next one.
 pub record IsUnderWay (first : Arrivals) (count : ℕ) (now : Arrivals) : Type 0 where
-  pub keeps : KeepsArrivals now
+  pub keeps : KeepsAll now
   pub news : List Entry
   pub steps : Leads Shows (view_of first) news (view_of now)
   pub counted : count ≡ length news
@@ -21,11 +22,11 @@ shows-snoc : (es : List Entry) (e : Entry) (u v w : MergerView) → Leads Shows 
 shows-snoc [] e u v w run step = (w, subst (λ (x : MergerView). Shows x e w) run step, refl)
 shows-snoc (d ∷ es) e u v w run step = (run.0, run.1, shows-snoc es e run.0 v w run.2 step)
 
-pub one_more : (first : Arrivals) (count : ℕ) (now then' : Arrivals) (e : Entry) → IsUnderWay first count now → KeepsArrivals then' → Shows (view_of now) e (view_of then') → IsUnderWay first (count + 1) then'
+pub one_more : (first : Arrivals) (count : ℕ) (now then' : Arrivals) (e : Entry) → IsUnderWay first count now → KeepsAll then' → Shows (view_of now) e (view_of then') → IsUnderWay first (count + 1) then'
 one_more first count now then' e way keeps step =
     let fewer = length_permutation (view_of now).held (e ∷ (view_of then').held) step.held in
-    let before = way.keeps.count in
-    let after = keeps.count in
+    let before = way.keeps.keeps.count in
+    let after = keeps.keeps.count in
     let counted = way.counted in
     let left = way.left in
     let longer = length-append way.news (e ∷ []) in

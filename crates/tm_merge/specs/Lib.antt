@@ -5,6 +5,7 @@ pub mod Refusals
 pub mod Showing
 pub mod Lines
 pub mod StoredArrivals
+pub mod ReadyThreads
 pub mod Candidates
 pub mod Holding
 pub mod HeldOrder

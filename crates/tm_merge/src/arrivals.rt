@@ -2,20 +2,23 @@ ghost use Rattle.std.specs.Prelude.{◌≡◌, ◌<◌, ◌≤◌, length, None,
 ghost use Rattle.tm_merge.specs.Lines.{IsNewLine};
 ghost use Rattle.tm_merge.specs.MergerViews.{arrived, nothing_arrived};
 ghost use Rattle.tm_merge.specs.Places.{at_place, at_object};
+ghost use Rattle.tm_merge.specs.ReadyThreads.{KeepsAll, ListsAllReady};
 ghost use Rattle.tm_merge.specs.Refusals.{refusal};
 ghost use Rattle.tm_merge.specs.Showing.{Joins};
 ghost use Rattle.tm_merge.specs.StoredArrivals.{HasRoomFor, KeepsArrivals, view_of};
 
 pub(crate) mod holding;
+mod listing;
 pub(crate) mod refusing;
-mod showing;
+pub(crate) mod showing;
 
 use crate::lines::Line;
 use std::alloc::Global;
 use tm_base::{Entry, NoMemory};
 
 /// The events that arrived: those that are shown in their order, the others in slots that the lines of
-/// their thread and of their object name. The shown ones have room for all.
+/// their thread and of their object name. The shown ones have room for all. The threads of which an event is
+/// ready are listed, so that what an event costs doesn't grow with their number.
 #[derive(Drop)]
 pub(crate) struct Arrivals {
     threads: Vec<Line>,
@@ -23,6 +26,7 @@ pub(crate) struct Arrivals {
     shown: Vec<Entry>,
     slots: Vec<Option<Entry>>,
     held: usize,
+    ready: Vec<u32>,
 }
 
 /// The event of the list with this place in this thread.
@@ -65,8 +69,10 @@ impl Arrivals {
     /// Nothing has arrived yet, from threads 0 to `threads` at this many objects.
     pub(crate) fn make(alloc: Global, threads: u32, objects: u32) -> Result<Arrivals, NoMemory>
         ensures keeps { IfOk result KeepsArrivals }
+        ensures lists { IfOk result ListsAllReady }
         ensures view { IfOk result (λ arrivals. view_of arrivals ≡ nothing_arrived threads objects) }
     {
+        let ready = Vec::with_capacity(alloc, threads as usize + 1)?;
         let threads = new_lines(alloc, threads as usize + 1)?;
         let objects = new_lines(alloc, objects as usize)?;
         Ok(Arrivals {
@@ -75,6 +81,7 @@ impl Arrivals {
             shown: Vec::new(alloc),
             slots: Vec::new(alloc),
             held: 0,
+            ready,
         })
     }
 
@@ -137,6 +144,7 @@ impl Arrivals {
         requires accepted { refusal (view_of self.old) entry.now ≡ None }
         ensures keeps { KeepsArrivals self.new }
         ensures same { view_of self.new ≡ view_of self.old }
+        ensures listed { self.new.ready ≡ self.old.ready }
         ensures room { OnOk result (HasRoomFor self.new entry.now) }
     {
         self.shown.reserve(self.held + 1)?;
@@ -148,11 +156,24 @@ impl Arrivals {
 
     /// The event, which isn't refused, arrives.
     pub(crate) fn keep(&mut self, entry: Entry)
+        requires all { KeepsAll self.old }
+        requires accepted { refusal (view_of self.old) entry ≡ None }
+        requires room { HasRoomFor self.old entry }
+        ensures all { KeepsAll self.new }
+        ensures joins { Joins (view_of self.old) entry (view_of self.new) }
+    {
+        self.put(entry);
+        self.list_if_ready(entry.thread);
+    }
+
+    /// The event, which isn't refused, is put into a slot. The list of ready threads stays as it was.
+    fn put(&mut self, entry: Entry)
         requires keeps { KeepsArrivals self.old }
         requires accepted { refusal (view_of self.old) entry ≡ None }
         requires room { HasRoomFor self.old entry }
         ensures keeps { KeepsArrivals self.new }
         ensures joins { Joins (view_of self.old) entry (view_of self.new) }
+        ensures listed { self.new.ready ≡ self.old.ready }
     {
         let slot = self.slots.len();
         self.threads[entry.thread as usize].add(entry.place, slot);

@@ -26,11 +26,12 @@ impl Model for Merger {
 
     ghost Value = { MergerView };
 
-    ghost use Rattle.tm_merge.specs.StoredArrivals.{KeepsArrivals, view_of};
+    ghost use Rattle.tm_merge.specs.ReadyThreads.{KeepsAll};
+    ghost use Rattle.tm_merge.specs.StoredArrivals.{view_of};
 
     ghost view = { λ m. view_of m.arrivals };
 
-    ghost invariant = { λ m. KeepsArrivals m.arrivals };
+    ghost invariant = { λ m. KeepsAll m.arrivals };
 }
 
 impl Merger {

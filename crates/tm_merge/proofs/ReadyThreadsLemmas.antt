@@ -1,0 +1,240 @@
+-- That the threads of ready events are listed, from step to step.
+use Rattle.std.proofs.Common.{◌≡◌, ◌≢◌, ℕ, ◌+◌, ◌-◌, ◌<◌, ◌≤◌, Bool, true, false, not, ◌==◌, ◌&&◌, ◌||◌, eqb, inl, inr, ⊎_elim, [], ◌∷◌, ◌++◌, filter, Option, Some, None, is_some, slice_get, length, Contains, refl, sym, ap, ◌∙◌, subst, arith}
+use Rattle.std.specs.Prelude.{MatchOption}
+use Rattle.std.specs.List.{IsDistinct}
+use Rattle.std.specs.Option.{option_or}
+use Rattle.std.specs.Vec.{vec_capacity}
+use Rattle.std.proofs.lemmas.Bool.{cases_Bool, cases_eq, cond-false, and_parts, and_from, and_left, eq-eqb, ne_eqb, eqb-true}
+use Rattle.std.proofs.lemmas.List.Sorted.{IsPermutation-sym, Contains-permutation}
+use Rattle.tm_base.specs.declared.events.Entry.{Entry}
+use Rattle.tm_merge.specs.declared.arrivals.Arrivals.{Arrivals}
+use Rattle.tm_merge.specs.declared.arrivals.showing.Candidate.{Candidate}
+use Rattle.tm_merge.specs.Candidates.{IsReadyIn, NoneReadyIn, IsAmong, IsBestIn, IsBestBelow, IsNextIn}
+use Rattle.tm_merge.specs.Places.{has_place, has_at, has_predecessors}
+use Rattle.tm_merge.specs.ReadyThreads.{is_listed, with_thread, ListsReady, ListsAllReady, KeepsAll}
+use Rattle.tm_merge.specs.Showing.{IsReady, IsSettled, IsSooner, Joins, Shows}
+use Rattle.tm_merge.specs.StoredArrivals.{found, occupants, KeepsArrivals, view_of}
+use Rattle.tm_merge.proofs.ListLemmas.{Contains-first, Contains-rest}
+use Rattle.tm_merge.proofs.ListingLemmas.{once-filter, once-with, listed-with, listed-without, listed_before, listed_room, among_all, among_more}
+use Rattle.tm_merge.proofs.NumberingLemmas.{found-snoc}
+
+-- an event that is sooner than one is sooner than all later ones
+sooner_still : (a b c : Entry) → IsSooner a b → IsSooner b c → IsSooner a c
+sooner_still a b c first second = ⊎_elim
+    (λ (less : a.stamp < b.stamp). ⊎_elim
+    (λ (more : b.stamp < c.stamp). inl (omega (arith, less, more)))
+    (λ (tie : (b.stamp ≡ c.stamp) × (b.thread ≤ c.thread)). inl (omega (arith, less, tie.0)))
+    second)
+    (λ (same : (a.stamp ≡ b.stamp) × (a.thread ≤ b.thread)). ⊎_elim
+    (λ (more : b.stamp < c.stamp). inl (omega (arith, same.0, more)))
+    (λ (tie : (b.stamp ≡ c.stamp) × (b.thread ≤ c.thread)). inr (omega (arith, same.0, tie.0), omega (arith, same.1, tie.1)))
+    second)
+    first
+
+-- the list alone changes
+pub keeps-listed : (a b : Arrivals) → KeepsArrivals a → b.threads ≡ a.threads → b.objects ≡ a.objects → b.shown ≡ a.shown → b.slots ≡ a.slots → b.held ≡ a.held → KeepsArrivals b
+keeps-listed a b keeps threads objects shown slots held = rw (threads, objects, shown, slots, held) (record {
+  main = keeps.main;
+  threads = keeps.threads;
+  objects = keeps.objects;
+  thread_tails = keeps.thread_tails;
+  object_tails = keeps.object_tails;
+  numbered = keeps.numbered;
+  rise = keeps.rise;
+  count = keeps.count;
+  room = keeps.room;
+})
+
+-- both stay
+pub lists-same : (a b : Arrivals) (skips : Entry → Bool) → ListsReady a skips → view_of b ≡ view_of a → length b.threads.items ≡ length a.threads.items → b.ready ≡ a.ready → ListsReady b skips
+lists-same a b skips lists view threads ready = record {
+  covers = λ e is_ready apart. subst (λ r. is_listed r.items e.thread ≡ true) (sym ready) (lists.covers e (subst (λ v. IsReady v e) view is_ready) apart);
+  known = λ t h. let old = lists.known t (subst (λ r. is_listed r.items t ≡ true) ready h) in omega (arith, old, threads);
+  once = subst (λ r. IsDistinct eqb r.items) (sym ready) lists.once;
+  room = let old = lists.room in let capacity = ap vec_capacity ready in omega (arith, old, capacity, threads);
+}
+
+-- as many threads, as the views say
+pub threads_same : (a b : Arrivals) → KeepsArrivals a → KeepsArrivals b → (view_of b).threads ≡ (view_of a).threads → length b.threads.items ≡ length a.threads.items
+threads_same a b keeps_a keeps_b same = let m = keeps_a.main in let n = keeps_b.main in omega (arith, m, n, same)
+
+-- nothing is ready yet
+pub lists-new : (a : Arrivals) → a.slots.items ≡ [] → a.ready.items ≡ [] → length a.threads.items ≤ vec_capacity a.ready → ListsAllReady a
+unfolding IsDistinct
+lists-new a slots ready room = record {
+  covers = λ e is_ready _. let held = subst (λ ss. Contains (occupants ss) e) slots is_ready.held in absurd (omega (arith, held.1));
+  known = λ t h. let none = subst (λ ts. is_listed ts t ≡ true) ready h in absurd cc;
+  once = subst (IsDistinct eqb) (sym ready) tt;
+  room = room;
+}
+
+module _ (a : Arrivals) where
+  -- there is room for a thread that isn't listed
+  pub room_for : (skips : Entry → Bool) (t : ℕ) → ListsReady a skips → t < length a.threads.items → is_listed a.ready.items t ≡ false → length a.ready.items < vec_capacity a.ready
+  room_for skips t lists below new =
+      let fewer = listed_room a.ready.items t (length a.threads.items) lists.once lists.known below new in
+      let room = lists.room in
+      omega (arith, fewer, room)
+
+  -- the thread that was skipped is listed now
+  pub lists-with : (b : Arrivals) (t : ℕ) → ListsReady a (λ e. e.thread == t) → t < length a.threads.items → view_of b ≡ view_of a → length b.threads.items ≡ length a.threads.items
+      → b.ready.items ≡ with_thread a.ready.items t → vec_capacity b.ready ≡ vec_capacity a.ready → ListsAllReady b
+  lists-with b t lists below view threads items capacity = record {
+    covers = λ e ready _. now e.thread (⊎_elim
+        (λ (own : (e.thread == t) ≡ true). let is : (t == e.thread) ≡ true = eq-eqb t e.thread (sym (eqb-true e.thread t own)) in grind arith)
+        (λ (other : (e.thread == t) ≡ false). let old = lists.covers e (subst (λ v. IsReady v e) view ready) other in grind arith)
+        (cases_Bool (e.thread == t)));
+    known = λ x h. ⊎_elim
+        (λ (same : t ≡ x). omega (arith, same, below, threads))
+        (λ (apart : t ≢ x).
+        let is : (t == x) ≡ false = ne_eqb t x apart in
+        let both = sym (listed-with a.ready.items t x) ∙ subst (λ ts. is_listed ts x ≡ true) items h in
+        let old = lists.known x (grind arith) in
+        omega (arith, old, threads))
+        (cases_eq t x);
+    once = subst (IsDistinct eqb) (sym items) (once-with a.ready.items t lists.once);
+    room = let old = lists.room in omega (arith, old, capacity, threads);
+  }
+    where
+      now : (x : ℕ) → (is_listed a.ready.items x || (t == x)) ≡ true → is_listed b.ready.items x ≡ true
+      now x h = subst (λ ts. is_listed ts x ≡ true) (sym items) (listed-with a.ready.items t x ∙ h)
+
+  -- a thread with no ready event needn't be listed
+  pub lists-none : (t : ℕ) → ListsReady a (λ e. e.thread == t) → NoneReadyIn a t → ListsAllReady a
+  lists-none t lists none = record {
+    covers = λ e ready _. lists.covers e ready (ne_eqb e.thread t (none e ready));
+    known = lists.known;
+    once = lists.once;
+    room = lists.room;
+  }
+
+  pub lists-without : (b : Arrivals) (t : ℕ) → ListsAllReady a → NoneReadyIn a t → view_of b ≡ view_of a → length b.threads.items ≡ length a.threads.items
+      → b.ready.items ≡ filter (λ x. not (x == t)) a.ready.items → vec_capacity b.ready ≡ vec_capacity a.ready → ListsAllReady b
+  lists-without b t lists none view threads items capacity = record {
+    covers = λ e ready _.
+        let was = subst (λ v. IsReady v e) view ready in
+        subst (λ ts. is_listed ts e.thread ≡ true) (sym items) (listed-without a.ready.items t e.thread (lists.covers e was refl) (λ same. none e was (sym same)));
+    known = λ x h. let old = lists.known x (listed_before (λ y. not (y == t)) a.ready.items x (subst (λ ts. is_listed ts x ≡ true) items h)) in omega (arith, old, threads);
+    once = subst (IsDistinct eqb) (sym items) (once-filter (λ y. not (y == t)) a.ready.items lists.once);
+    room = let old = lists.room in omega (arith, old, capacity, threads);
+  }
+
+  -- as an event arrives, its own thread alone may have a new ready event
+  pub lists-joins : (b : Arrivals) (e : Entry) → ListsAllReady a → KeepsArrivals a → KeepsArrivals b → Joins (view_of a) e (view_of b) → b.ready ≡ a.ready → ListsReady b (λ x. x.thread == e.thread)
+  lists-joins b e lists keeps_a keeps_b joins ready = record {
+    covers = λ x is_ready apart. subst (λ r. is_listed r.items x.thread ≡ true) (sym ready) (⊎_elim
+        (λ (new : x ≡ e). let same = eq-eqb x.thread e.thread (ap (λ (d : Entry). d.thread) new) in absurd cc)
+        (λ (old : Contains (view_of a).held x). lists.covers x (record { held = old; after = subst (λ es. has_predecessors es x ≡ true) joins.shown is_ready.after }) refl)
+        (Contains-first e (view_of a).held x (Contains-permutation (view_of b).held (e ∷ (view_of a).held) x (IsPermutation-sym (e ∷ (view_of a).held) (view_of b).held joins.held) is_ready.held)));
+    known = λ t h. let old = lists.known t (subst (λ r. is_listed r.items t ≡ true) ready h) in omega (arith, old, threads);
+    once = subst (λ r. IsDistinct eqb r.items) (sym ready) lists.once;
+    room = let old = lists.room in let capacity = ap vec_capacity ready in omega (arith, old, capacity, threads);
+  }
+    where
+      threads : length b.threads.items ≡ length a.threads.items
+      threads = threads_same a b keeps_a keeps_b joins.same_threads
+
+  -- as an event is shown, an event of its thread or at its object alone may become ready
+  pub lists-shows : (b : Arrivals) (e : Entry) → ListsAllReady a → KeepsArrivals a → KeepsArrivals b → Shows (view_of a) e (view_of b) → b.ready ≡ a.ready → ListsReady b (λ x. x.object == e.object)
+  lists-shows b e lists keeps_a keeps_b shows ready = record {
+    covers = λ x is_ready apart. subst (λ r. is_listed r.items x.thread ≡ true) (sym ready) (⊎_elim
+        (λ (own : e.thread ≡ x.thread). subst (λ t. is_listed a.ready.items t ≡ true) own (lists.covers e shows.next.ready refl))
+        (λ (other : e.thread ≢ x.thread). lists.covers x (before x is_ready other apart) refl)
+        (cases_eq e.thread x.thread));
+    known = λ t h. let old = lists.known t (subst (λ r. is_listed r.items t ≡ true) ready h) in omega (arith, old, threads);
+    once = subst (λ r. IsDistinct eqb r.items) (sym ready) lists.once;
+    room = let old = lists.room in let capacity = ap vec_capacity ready in omega (arith, old, capacity, threads);
+  }
+    where
+      threads : length b.threads.items ≡ length a.threads.items
+      threads = threads_same a b keeps_a keeps_b shows.same_threads
+
+      or_none : (o : Option Entry) → option_or o None ≡ o
+      or_none None = refl
+      or_none (Some x) = refl
+
+      -- the event isn't in another line
+      not_found : (line number : Entry → ℕ) (k n : ℕ) → line e ≢ k → found line number (a.shown.items ++ e ∷ []) k n ≡ found line number a.shown.items k n
+      not_found line number k n apart =
+          found-snoc line number a.shown.items e k n
+          ∙ ap (option_or (found line number a.shown.items k n)) (cond-false (line e == k && number e == n) (Some e) None (and_left (line e == k) (number e == n) (ne_eqb (line e) k apart)))
+          ∙ or_none (found line number a.shown.items k n)
+
+      before : (x : Entry) → IsReady (view_of b) x → e.thread ≢ x.thread → (x.object == e.object) ≡ false → IsReady (view_of a) x
+      before x is_ready other apart =
+          let after : has_predecessors (a.shown.items ++ e ∷ []) x ≡ true = subst (λ es. has_predecessors es x ≡ true) shows.shown is_ready.after in
+          let both = and_parts (has_place (a.shown.items ++ e ∷ []) x.thread (x.place - 1)) (has_at (a.shown.items ++ e ∷ []) x.object (x.at - 1)) after in
+          let elsewhere : e.object ≢ x.object = λ same. let here = eq-eqb x.object e.object (sym same) in absurd cc in
+          record {
+            held = Contains-permutation (e ∷ (view_of b).held) (view_of a).held x (IsPermutation-sym (view_of a).held (e ∷ (view_of b).held) shows.held) (Contains-rest e (view_of b).held x is_ready.held);
+            after = and_from (has_place a.shown.items x.thread (x.place - 1)) (has_at a.shown.items x.object (x.at - 1))
+                (subst (λ o. (x.place - 1 == 0 || is_some o) ≡ true) (not_found (λ d. d.thread) (λ d. d.place) x.thread (x.place - 1) other) both.0)
+                (subst (λ o. (x.at - 1 == 0 || is_some o) ≡ true) (not_found (λ d. d.object) (λ d. d.at) x.object (x.at - 1) elsewhere) both.1);
+          }
+
+  -- the best of the listed threads is next
+  module _ (all : KeepsAll a) where
+    listed_among : (n : ℕ) (e : Entry) → length a.ready.items ≤ n → IsReady (view_of a) e → IsAmong a.ready.items n e.thread
+    listed_among n e whole ready = among_all a.ready.items n e.thread whole (all.lists.covers e ready refl)
+
+    pub next_from : (n : ℕ) (best : Option Candidate) → length a.ready.items ≤ n → IsBestBelow a n best → MatchOption best (IsSettled (view_of a)) (λ c. IsNextIn a c)
+    next_from n None whole none = λ e held. ⊎_elim
+        (λ (after : has_predecessors a.shown.items e ≡ true).
+        let ready : IsReady (view_of a) e = record { held = held; after = after } in
+        absurd (none e ready (listed_among n e whole ready)))
+        (λ (lacks : has_predecessors a.shown.items e ≡ false). lacks)
+        (cases_Bool (has_predecessors a.shown.items e))
+    next_from n (Some c) whole best = record {
+      there = best.there;
+      next = record { ready = best.ready; soonest = λ e ready. best.soonest e ready (listed_among n e whole ready) };
+    }
+
+  -- one more listed thread is looked at
+  module _ (n t : ℕ) (here : slice_get a.ready.items n ≡ Some t) where
+    pub better-none : (best : Option Candidate) → NoneReadyIn a t → IsBestBelow a n best → IsBestBelow a (n + 1) best
+    better-none None free none = λ e ready among. ⊎_elim
+        (λ (earlier : IsAmong a.ready.items n e.thread). none e ready earlier)
+        (λ (own : e.thread ≡ t). free e ready own)
+        (among_more a.ready.items n e.thread t here among)
+    better-none (Some c) free best = record {
+      there = best.there;
+      ready = best.ready;
+      soonest = λ e ready among. ⊎_elim
+          (λ (earlier : IsAmong a.ready.items n e.thread). best.soonest e ready earlier)
+          (λ (own : e.thread ≡ t). absurd (free e ready own))
+          (among_more a.ready.items n e.thread t here among);
+    }
+
+    module _ (c : Candidate) (own : IsReadyIn a t c) where
+      is_own : (e : Entry) → IsReady (view_of a) e → e.thread ≡ t → IsSooner c.entry e
+      is_own e ready same = subst (IsSooner c.entry) (sym (own.only e ready same)) (inr (refl, omega arith))
+
+      pub better-first : ((e : Entry) → IsReady (view_of a) e → IsAmong a.ready.items n e.thread → ⊥) → IsBestIn a (n + 1) c
+      better-first none = record {
+        there = own.there;
+        ready = own.ready;
+        soonest = λ e ready among. ⊎_elim
+            (λ (earlier : IsAmong a.ready.items n e.thread). absurd (none e ready earlier))
+            (λ (same : e.thread ≡ t). is_own e ready same)
+            (among_more a.ready.items n e.thread t here among);
+      }
+
+      pub better-new : (d : Candidate) → IsBestIn a n d → IsSooner c.entry d.entry → IsBestIn a (n + 1) c
+      better-new d best sooner = record {
+        there = own.there;
+        ready = own.ready;
+        soonest = λ e ready among. ⊎_elim
+            (λ (earlier : IsAmong a.ready.items n e.thread). sooner_still c.entry d.entry e sooner (best.soonest e ready earlier))
+            (λ (same : e.thread ≡ t). is_own e ready same)
+            (among_more a.ready.items n e.thread t here among);
+      }
+
+      pub better-old : (d : Candidate) → IsBestIn a n d → IsSooner d.entry c.entry → IsBestIn a (n + 1) d
+      better-old d best sooner = record {
+        there = best.there;
+        ready = best.ready;
+        soonest = λ e ready among. ⊎_elim
+            (λ (earlier : IsAmong a.ready.items n e.thread). best.soonest e ready earlier)
+            (λ (same : e.thread ≡ t). subst (IsSooner d.entry) (sym (own.only e ready same)) sooner)
+            (among_more a.ready.items n e.thread t here among);
+      }

@@ -1,0 +1,11 @@
+use Rattle.std.proofs.Common.{◌==◌, refl}
+use Rattle.tm_merge.proofs.ReadyThreadsLemmas.{room_for, lists-with}
+use Rattle.tm_merge.proofs.arrivals.Arrivals.list_if_ready.Goals as goal
+
+pub list_thread-requires : goal.list_thread-requires
+list_thread-requires c = room_for c.args.self.now (λ e. e.thread == c.args.thread) c.args.thread c.requires.lists c.requires.known
+
+pub returns-then-is_some-clause-lists : goal.returns-then-is_some-clause-lists
+returns-then-is_some-clause-lists c =
+    let a = c.args.self.now in
+    lists-with a (record a { ready = c.list_thread.new.threads }) c.args.thread c.requires.lists c.requires.known refl refl c.list_thread.ensures.items c.list_thread.ensures.capacity
