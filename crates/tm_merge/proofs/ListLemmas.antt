@@ -68,7 +68,7 @@ Contains-at (y ∷ xs) zero x h = (zero, omega arith, cc)
 Contains-at (y ∷ xs) (suc i) x h = let there = Contains-at xs i x h in (suc there.0, omega (arith, there.1), there.2)
 
 -- an element takes the list apart into what stands before it and what stands behind it
-pub Contains-parts : {A : Type 0} (xs : List A) (x : A) → Contains xs x → (front : List A) × (back : List A) × (xs ≡ front ++ x ∷ back)
+pub Contains-parts : {A : Type 0} (xs : List A) (x : A) → Contains xs x → (prefix : List A) × (back : List A) × (xs ≡ prefix ++ x ∷ back)
 Contains-parts [] x h = absurd (omega (arith, h.1))
 Contains-parts (y ∷ xs) x h = ⊎_elim
     (λ (same : x ≡ y). ([], xs, ap (λ z. z ∷ xs) (sym same)))

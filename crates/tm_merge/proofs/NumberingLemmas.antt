@@ -25,18 +25,18 @@ none_from None h = refl
 none_from (Some x) h = absurd cc
 
 -- an element of a list with one more at its end is the last one, or stands before it
-pub snoc-split : {A : Type 0} (xs : List A) (y : A) (front : List A) (x : A) (back : List A) → xs ++ y ∷ [] ≡ front ++ x ∷ back → ((front ≡ xs) × (x ≡ y)) ⊎ ((rest : List A) × (xs ≡ front ++ x ∷ rest))
+pub snoc-split : {A : Type 0} (xs : List A) (y : A) (prefix : List A) (x : A) (back : List A) → xs ++ y ∷ [] ≡ prefix ++ x ∷ back → ((prefix ≡ xs) × (x ≡ y)) ⊎ ((rest : List A) × (xs ≡ prefix ++ x ∷ rest))
 snoc-split [] y [] x back h = inl (refl, cc)
 snoc-split [] y (f ∷ []) x back h = absurd cc
-snoc-split [] y (f ∷ g ∷ front) x back h = absurd cc
+snoc-split [] y (f ∷ g ∷ prefix) x back h = absurd cc
 snoc-split (z ∷ xs) y [] x back h = let same : z ≡ x = cc in inr (xs, ap (λ w. w ∷ xs) same)
-snoc-split (z ∷ xs) y (f ∷ front) x back h =
+snoc-split (z ∷ xs) y (f ∷ prefix) x back h =
     let same : z ≡ f = cc in
-    let rest : xs ++ y ∷ [] ≡ front ++ x ∷ back = cc in
+    let rest : xs ++ y ∷ [] ≡ prefix ++ x ∷ back = cc in
     ⊎_elim
     (λ last. inl (cc, last.1))
     (λ before. inr (before.0, ap (λ w. w ∷ xs) same ∙ ap (λ l. f ∷ l) before.1))
-    (snoc-split xs y front x back rest)
+    (snoc-split xs y prefix x back rest)
 
 module _ (line number : Entry → ℕ) where
   -- how many events of the line there are
@@ -91,11 +91,11 @@ module _ (line number : Entry → ℕ) where
       (Contains-push_cases es e x h)
 
   -- what holds of the empty list, and stays with each next event, holds of the whole list
-  pub walk : (P : List Entry → Type 0) → ((es : List Entry) (e : Entry) → P es → number e ≡ suc (count_in es (line e)) → P (es ++ e ∷ [])) → (front rest : List Entry) → P front → IsNumberedBy line number (front ++ rest) → P (front ++ rest)
-  walk P step front [] holds numbered = subst P (sym (append-nil front)) holds
-  walk P step front (e ∷ rest) holds numbered =
-      let same : (front ++ e ∷ []) ++ rest ≡ front ++ e ∷ rest = append_assoc front (e ∷ []) rest in
-      subst P same (walk P step (front ++ e ∷ []) rest (step front e holds (numbered front rest e refl)) (subst (IsNumberedBy line number) (sym same) numbered))
+  pub walk : (P : List Entry → Type 0) → ((es : List Entry) (e : Entry) → P es → number e ≡ suc (count_in es (line e)) → P (es ++ e ∷ [])) → (prefix rest : List Entry) → P prefix → IsNumberedBy line number (prefix ++ rest) → P (prefix ++ rest)
+  walk P step prefix [] holds numbered = subst P (sym (append-nil prefix)) holds
+  walk P step prefix (e ∷ rest) holds numbered =
+      let same : (prefix ++ e ∷ []) ++ rest ≡ prefix ++ e ∷ rest = append_assoc prefix (e ∷ []) rest in
+      subst P same (walk P step (prefix ++ e ∷ []) rest (step prefix e holds (numbered prefix rest e refl)) (subst (IsNumberedBy line number) (sym same) numbered))
 
   -- the numbers of a numbered list are there just once
   pub exact_owns : (es : List Entry) → IsNumberedBy line number es → IsExact es × Owns es
@@ -106,7 +106,7 @@ module _ (line number : Entry → ℕ) where
 
   -- one more event, with the next number of its line
   pub numbered-snoc : (es : List Entry) (e : Entry) → IsNumberedBy line number es → number e ≡ suc (count_in es (line e)) → IsNumberedBy line number (es ++ e ∷ [])
-  numbered-snoc es e numbered next front back x h = ⊎_elim
-      (λ (last : (front ≡ es) × (x ≡ e)). subst (λ ds. number x ≡ suc (count_in ds (line x))) (sym last.0) (subst (λ y. number y ≡ suc (count_in es (line y))) (sym last.1) next))
-      (λ (before : (rest : List Entry) × (es ≡ front ++ x ∷ rest)). numbered front before.0 x before.1)
-      (snoc-split es e front x back h)
+  numbered-snoc es e numbered next prefix back x h = ⊎_elim
+      (λ (last : (prefix ≡ es) × (x ≡ e)). subst (λ ds. number x ≡ suc (count_in ds (line x))) (sym last.0) (subst (λ y. number y ≡ suc (count_in es (line y))) (sym last.1) next))
+      (λ (before : (rest : List Entry) × (es ≡ prefix ++ x ∷ rest)). numbered prefix before.0 x before.1)
+      (snoc-split es e prefix x back h)

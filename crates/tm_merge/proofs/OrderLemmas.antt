@@ -35,18 +35,18 @@ there_is (Some x) h = (x, refl)
 
 module _ (line number : Entry → ℕ) where
   -- the first events of a numbered list are numbered
-  pub prefix_numbered : (es front back : List Entry) → IsNumberedBy line number es → es ≡ front ++ back → IsNumberedBy line number front
-  prefix_numbered es front back numbered is f b e part =
+  pub prefix_numbered : (es prefix back : List Entry) → IsNumberedBy line number es → es ≡ prefix ++ back → IsNumberedBy line number prefix
+  prefix_numbered es prefix back numbered is f b e part =
       numbered f (b ++ back) e (is ∙ ap (λ l. l ++ back) part ∙ append_assoc f (e ∷ b) back)
 
   -- just before an event of a numbered list stands the one with the number before, if there is one
-  pub before : (es front back : List Entry) (e : Entry) (n : ℕ) → IsNumberedBy line number es → es ≡ front ++ e ∷ back → 0 < n → suc n ≡ number e → (x : Entry) × Contains front x × (line x ≡ line e) × (number x ≡ n)
-  before es front back e n numbered is positive next =
-      let own = numbered front back e is in
-      let exact = (exact_owns line number front (prefix_numbered es front (e ∷ back) numbered is)).0 (line e) n in
-      let some : is_some (found line number front (line e) n) ≡ true = exact ∙ grind (arith, nat_tests) in
-      let x = there_is (found line number front (line e) n) some in
-      let element = find-element (λ d. line d == line e && number d == n) front x.0 x.1 in
+  pub before : (es prefix back : List Entry) (e : Entry) (n : ℕ) → IsNumberedBy line number es → es ≡ prefix ++ e ∷ back → 0 < n → suc n ≡ number e → (x : Entry) × Contains prefix x × (line x ≡ line e) × (number x ≡ n)
+  before es prefix back e n numbered is positive next =
+      let own = numbered prefix back e is in
+      let exact = (exact_owns line number prefix (prefix_numbered es prefix (e ∷ back) numbered is)).0 (line e) n in
+      let some : is_some (found line number prefix (line e) n) ≡ true = exact ∙ grind (arith, nat_tests) in
+      let x = there_is (found line number prefix (line e) n) some in
+      let element = find-element (λ d. line d == line e && number d == n) prefix x.0 x.1 in
       let both = and_parts (line x.0 == line e) (number x.0 == n) element.1 in
       (x.0, element.0, eqb-true (line x.0) (line e) both.0, eqb-true (number x.0) n both.1)
 
@@ -90,39 +90,39 @@ module _ (line number : Entry → ℕ) where
 
 -- the direct predecessors of an event stand before it
 module _ (es events : List Entry) (numbered : IsNumbered es) (among : (e : Entry) → Contains es e → Contains events e) (owned : HaveOwnPlaces events) where
-  direct_before : (front back : List Entry) (a b : Entry) → es ≡ front ++ b ∷ back → Contains events a → IsDirect a b → Contains front a
-  direct_before front back a b is h direct = ⊎_elim
+  direct_before : (prefix back : List Entry) (a b : Entry) → es ≡ prefix ++ b ∷ back → Contains events a → IsDirect a b → Contains prefix a
+  direct_before prefix back a b is h direct = ⊎_elim
       (λ (thread : (a.thread ≡ b.thread) × (suc a.place ≡ b.place)).
-      let x = before (λ e. e.thread) (λ e. e.place) es front back b a.place numbered.threads is (owned.counted a h).0 thread.1 in
+      let x = before (λ e. e.thread) (λ e. e.place) es prefix back b a.place numbered.threads is (owned.counted a h).0 thread.1 in
       let same : x.0 ≡ a = owned.places x.0 a (in_events x.0 x.1) h (x.2 ∙ sym thread.0) x.3 in
-      subst (Contains front) same x.1)
+      subst (Contains prefix) same x.1)
       (λ (object : (a.object ≡ b.object) × (suc a.at ≡ b.at)).
-      let x = before (λ e. e.object) (λ e. e.at) es front back b a.at numbered.objects is (owned.counted a h).1 object.1 in
+      let x = before (λ e. e.object) (λ e. e.at) es prefix back b a.at numbered.objects is (owned.counted a h).1 object.1 in
       let same : x.0 ≡ a = owned.ats x.0 a (in_events x.0 x.1) h (x.2 ∙ sym object.0) x.3 in
-      subst (Contains front) same x.1)
+      subst (Contains prefix) same x.1)
       (direct_cases a b direct)
     where
-      in_events : (x : Entry) → Contains front x → Contains events x
-      in_events x in_front = among x (subst (λ l. Contains l x) (sym is) (Contains-append_left front (b ∷ back) x in_front))
+      in_events : (x : Entry) → Contains prefix x → Contains events x
+      in_events x in_front = among x (subst (λ l. Contains l x) (sym is) (Contains-append_left prefix (b ∷ back) x in_front))
 
-  chain_before : (between : List Entry) (front back : List Entry) (a b : Entry) → es ≡ front ++ b ∷ back → IsChain events a between b → Contains front a
-  chain_before [] front back a b is chain = direct_before front back a b is chain.0 chain.2
-  chain_before (m ∷ between) front back a b is chain =
-      let later = chain_before between front back m b is chain.2 in
-      let parts = Contains-parts front m later in
+  chain_before : (between : List Entry) (prefix back : List Entry) (a b : Entry) → es ≡ prefix ++ b ∷ back → IsChain events a between b → Contains prefix a
+  chain_before [] prefix back a b is chain = direct_before prefix back a b is chain.0 chain.2
+  chain_before (m ∷ between) prefix back a b is chain =
+      let later = chain_before between prefix back m b is chain.2 in
+      let parts = Contains-parts prefix m later in
       let whole : es ≡ parts.0 ++ m ∷ (parts.1 ++ b ∷ back) = is ∙ ap (λ l. l ++ b ∷ back) parts.2 ∙ append_assoc parts.0 (m ∷ parts.1) (b ∷ back) in
       let early = direct_before parts.0 (parts.1 ++ b ∷ back) a m whole chain.0 chain.1 in
       subst (λ l. Contains l a) (sym parts.2) (Contains-append_left parts.0 (m ∷ parts.1) a early)
 
   pub closed : PrefixesAreClosed es events
-  closed front back is = record {
-    known = λ e h. among e (subst (λ l. Contains l e) (sym is) (Contains-append_left front back e h));
-    once = once (λ e. e.thread) (λ e. e.place) front (prefix_numbered (λ e. e.thread) (λ e. e.place) es front back numbered.threads is);
+  closed prefix back is = record {
+    known = λ e h. among e (subst (λ l. Contains l e) (sym is) (Contains-append_left prefix back e h));
+    once = once (λ e. e.thread) (λ e. e.place) prefix (prefix_numbered (λ e. e.thread) (λ e. e.place) es prefix back numbered.threads is);
     closed = λ f b x e part happened. chain_before happened.0 f (b ++ back) x e (is ∙ ap (λ l. l ++ back) part ∙ append_assoc f (e ∷ b) back) happened.1;
   }
 
-  pub in_order : (front back : List Entry) (a b : Entry) → es ≡ front ++ b ∷ back → Contains es a → IsDirect a b → Contains front a
-  in_order front back a b is h direct = direct_before front back a b is (among a h) direct
+  pub in_order : (prefix back : List Entry) (a b : Entry) → es ≡ prefix ++ b ∷ back → Contains es a → IsDirect a b → Contains prefix a
+  in_order prefix back a b is h direct = direct_before prefix back a b is (among a h) direct
 
 -- numbered events have their places for themselves
 pub numbered_own : (es : List Entry) → IsNumbered es → HaveOwnPlaces es

@@ -5,7 +5,7 @@ use Rattle.tm_base.specs.Orders.{IsDirect, StandsOnce, IsClosed}
 
 -- The number of each event is one more than how many events of its line stand before it.
 abbrev pub IsNumberedBy : (line number : Entry → ℕ) → List Entry → Type 0
-IsNumberedBy line number es = (front back : List Entry) (e : Entry) → es ≡ front ++ e ∷ back → number e ≡ suc (length (filter (λ a. line a == line e) front))
+IsNumberedBy line number es = (prefix back : List Entry) (e : Entry) → es ≡ prefix ++ e ∷ back → number e ≡ suc (length (filter (λ a. line a == line e) prefix))
 
 -- The events of each thread stand in the list with places 1, 2, 3 and so on, and so do those at each object.
 pub record IsNumbered (es : List Entry) : Type 0 where
@@ -18,7 +18,7 @@ StampsRise es = (a b : Entry) → Contains es a → Contains es b → IsDirect a
 
 -- Each event of the list stands after those of its direct predecessors that are in the list.
 abbrev pub IsInOrder : List Entry → Type 0
-IsInOrder es = (front back : List Entry) (a b : Entry) → es ≡ front ++ b ∷ back → Contains es a → IsDirect a b → Contains front a
+IsInOrder es = (prefix back : List Entry) (a b : Entry) → es ≡ prefix ++ b ∷ back → Contains es a → IsDirect a b → Contains prefix a
 
 -- Places count from 1, and no two events have one place in one thread, or one at one object.
 pub record HaveOwnPlaces (es : List Entry) : Type 0 where
@@ -28,7 +28,7 @@ pub record HaveOwnPlaces (es : List Entry) : Type 0 where
 
 -- The first events of the list, however many, are closed under happened-before in the others: a consistent cut.
 abbrev pub PrefixesAreClosed : (es events : List Entry) → Type 0
-PrefixesAreClosed es events = (front back : List Entry) → es ≡ front ++ back → IsClosed front events
+PrefixesAreClosed es events = (prefix back : List Entry) → es ≡ prefix ++ back → IsClosed prefix events
 
 -- In a numbered list no event stands twice, and each stands after its direct predecessors.
 abbrev pub NumberedEventsAreInOrder : Type 0

@@ -14,6 +14,6 @@ loop-slot-preserved c =
     let candidate : c.nearer-best.result ≡ nearer c.args.current c.loop-slot.best (get_or a.slots.items i None) = c.nearer-best.ensures ∙ ap (λ ss. nearer c.args.current c.loop-slot.best (get_or ss i None)) slots in
     let within : i < length a.slots.items = omega (arith, c.loop-slot-test.true, ap length slots) in
     let more = least-more c.args.current (take i a.slots.items) c.loop-slot.best (get_or a.slots.items i None) c.loop-slot.invariant in
-    let front : take (i + 1) a.slots.items ≡ take i a.slots.items ++ get_or a.slots.items i None ∷ [] = take_more a.slots.items i None within in
+    let prefix : take (i + 1) a.slots.items ≡ take i a.slots.items ++ get_or a.slots.items i None ∷ [] = take_more a.slots.items i None within in
     subst (IsLeastAfter c.args.current (occupants (take (i + 1) a.slots.items))) (sym candidate)
-    (subst (λ (ss : List (Option Entry)). IsLeastAfter c.args.current (occupants ss) (nearer c.args.current c.loop-slot.best (get_or a.slots.items i None))) (sym front) more)
+    (subst (λ (ss : List (Option Entry)). IsLeastAfter c.args.current (occupants ss) (nearer c.args.current c.loop-slot.best (get_or a.slots.items i None))) (sym prefix) more)
