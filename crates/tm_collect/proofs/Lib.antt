@@ -1,0 +1,4 @@
+pub mod SendingLemmas
+pub mod AdvancingLemmas
+pub mod CollectingLemmas
+pub mod PumpingLemmas

@@ -1,0 +1,10 @@
+//! The collector of a run: it takes events one by one, shows them in an order that keeps happened-before,
+//! applies those shown to the joint state, and writes a row for each.
+#![tactic(auto)]
+
+mod collectors;
+mod refusals;
+mod writers;
+
+pub use collectors::Collector;
+pub use refusals::Refusal;

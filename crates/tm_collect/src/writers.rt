@@ -1,0 +1,114 @@
+ghost use Rattle.std.specs.Prelude.{◌≡◌, ◌<◌, ◌≤◌, ◌+◌, ◌^◌, length, slice_get, All, IfErr, IfOk, OnErr, OnOk, false};
+ghost use Rattle.tm_collect.specs.Advancing.{IsInRange, Shows, StopsBy};
+ghost use Rattle.tm_collect.specs.Sending.{Sends};
+ghost use Rattle.tm_collect.specs.Transcripts.{first_joint};
+
+use std::alloc::Global;
+use tm_base::{Entry, NoMemory};
+use tm_joint::{Illegal, Joint};
+use tm_outside::{Sink, write_all};
+use tm_text::Exercise;
+use tm_timeline::row;
+
+/// One more than the greatest number of events that a replayer takes. No memory holds so many.
+const MOST_EVENTS: u64 = 1 << 62;
+
+/// Why a writer went no further.
+#[derive(Clone, Copy, Debug, PartialEq, Eq)]
+pub enum Stop {
+    Illegal(Illegal),
+    NoMemory,
+}
+
+/// Applies events and writes their rows: the joint state so far, and whether a write has failed.
+#[derive(Drop)]
+pub struct Writer<'x> {
+    pub alloc: Global,
+    pub exercise: &'x Exercise,
+    pub joint: Joint<'x>,
+    pub write_fault: bool,
+}
+
+impl<'x> Writer<'x> {
+    /// Nothing was applied or written yet.
+    pub fn make(alloc: Global, exercise: &'x Exercise) -> Result<Writer<'x>, NoMemory>
+        ensures joint { IfOk result (λ writer. writer.joint ≡ first_joint exercise.now) }
+        ensures exercise { IfOk result (λ writer. writer.exercise.now ≡ exercise.now) }
+        ensures untried { IfOk result (λ writer. writer.write_fault ≡ false) }
+    {
+        let joint = Joint::make(alloc, exercise)?;
+        Ok(Writer {
+            alloc,
+            exercise,
+            joint,
+            write_fault: false,
+        })
+    }
+
+    /// Applies all events of the list that weren't, in order, and writes a row for each, unless a write
+    /// failed. It stops before an event that can't happen, and where memory runs out.
+    pub fn show<K: Sink>(&mut self, shown: &[Entry], sink: &mut K) -> Result<(), Stop>
+        requires exercise { self.old.joint.exercise ≡ self.old.exercise.now }
+        requires ranges { All (IsInRange self.old.exercise.now) shown.now }
+        requires left { self.old.joint.applied ≤ length shown.now }
+        ensures shows { OnOk result (Shows self.old.exercise.now shown.now self.old.joint self.new.joint
+            (record { failed = self.old.write_fault; faults = K.fault_count sink.old; written = K.written sink.old })
+            (record { failed = self.new.write_fault; faults = K.fault_count sink.new; written = K.written sink.new })) }
+        ensures whole { OnOk result (self.new.joint.applied ≡ length shown.now) }
+        ensures stops { IfErr result (λ stop. StopsBy self.old.exercise.now shown.now self.old.joint self.new.joint
+            (record { failed = self.old.write_fault; faults = K.fault_count sink.old; written = K.written sink.old })
+            (record { failed = self.new.write_fault; faults = K.fault_count sink.new; written = K.written sink.new }) stop) }
+        ensures exercise { self.new.exercise ≡ self.old.exercise }
+    {
+        while self.joint.applied() < shown.len() as u64 {
+            if let Err(stop) = self.show_next(shown, sink) {
+                return Err(stop);
+            }
+        }
+        Ok(())
+    }
+
+    /// Applies the next event of the list, and writes its row, unless a write failed.
+    fn show_next<K: Sink>(&mut self, shown: &[Entry], sink: &mut K) -> Result<(), Stop>
+        requires exercise { self.old.joint.exercise ≡ self.old.exercise.now }
+        requires ranges { All (IsInRange self.old.exercise.now) shown.now }
+        requires left { self.old.joint.applied < length shown.now }
+        ensures shows { OnOk result (Shows self.old.exercise.now shown.now self.old.joint self.new.joint
+            (record { failed = self.old.write_fault; faults = K.fault_count sink.old; written = K.written sink.old })
+            (record { failed = self.new.write_fault; faults = K.fault_count sink.new; written = K.written sink.new })) }
+        ensures counted { OnOk result (self.new.joint.applied ≡ self.old.joint.applied + 1) }
+        ensures stops { IfErr result (λ stop. StopsBy self.old.exercise.now shown.now self.old.joint self.new.joint
+            (record { failed = self.old.write_fault; faults = K.fault_count sink.old; written = K.written sink.old })
+            (record { failed = self.new.write_fault; faults = K.fault_count sink.new; written = K.written sink.new }) stop) }
+        ensures exercise { self.new.exercise ≡ self.old.exercise }
+    {
+        let before = self.joint.applied();
+        if before >= MOST_EVENTS {
+            return Err(Stop::NoMemory);
+        }
+        let entry = shown[before as usize];
+        if let Err(illegal) = self.joint.apply(&entry) {
+            return Err(Stop::Illegal(illegal));
+        }
+        let number = self.joint.applied();
+        let bars = self.joint.bars();
+        let Ok(line) = row(self.alloc, self.exercise, number, &entry, bars) else {
+            return Err(Stop::NoMemory);
+        };
+        self.send(sink, line.as_slice());
+        Ok(())
+    }
+
+    /// Writes the bytes, unless a write failed before.
+    fn send<K: Sink>(&mut self, sink: &mut K, bytes: &[u8])
+        ensures sent { Sends
+            (record { failed = self.old.write_fault; faults = K.fault_count sink.old; written = K.written sink.old })
+            (record { failed = self.new.write_fault; faults = K.fault_count sink.new; written = K.written sink.new }) bytes.now }
+        ensures joint { self.new.joint ≡ self.old.joint }
+        ensures exercise { self.new.exercise ≡ self.old.exercise }
+    {
+        if !self.write_fault {
+            self.write_fault = write_all(sink, bytes).is_err();
+        }
+    }
+}
