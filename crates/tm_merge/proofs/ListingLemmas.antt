@@ -103,6 +103,23 @@ listed_before p (y ∷ ts) x h = ⊎_elim
     let more = listed_before p ts x (subst (λ l. is_listed l x ≡ true) (cond-false (p y) (y ∷ filter p ts) (filter p ts) out) h) in grind arith)
     (cases_Bool (p y))
 
+-- what was taken from the list isn't listed
+pub listed_apart : (ts : List ℕ) (t x : ℕ) → is_listed (filter (λ y. not (y == t)) ts) x ≡ true → (x == t) ≡ false
+listed_apart [] t x h = absurd cc
+listed_apart (y ∷ ts) t x h = ⊎_elim
+    (λ (out : (y == t) ≡ true).
+    listed_apart ts t x (subst (λ l. is_listed l x ≡ true) (cond-false (not (y == t)) (y ∷ rest) rest (ap not out)) h))
+    (λ (stays : (y == t) ≡ false).
+    let now : is_listed (y ∷ rest) x ≡ true = subst (λ l. is_listed l x ≡ true) (cond-true (not (y == t)) (y ∷ rest) rest (ap not stays)) h in
+    ⊎_elim
+    (λ (here : (y == x) ≡ true). subst (λ z. (z == t) ≡ false) (eqb-true y x here) stays)
+    (λ (after : is_listed rest x ≡ true). listed_apart ts t x after)
+    (or_cases _ _ now))
+    (cases_Bool (y == t))
+  where
+    rest : List ℕ
+    rest = filter (λ y. not (y == t)) ts
+
 -- threads below a limit leave room for one that isn't listed
 pub listed_room : (ts : List ℕ) (t n : ℕ) → IsDistinct eqb ts → ((x : ℕ) → is_listed ts x ≡ true → x < n) → t < n → is_listed ts t ≡ false → length ts < n
 listed_room ts t n once known below new =
@@ -130,9 +147,6 @@ among_more ts n t u here among = ⊎_elim
     (λ (last : among.index ≡ n). inr (let there : slice_get ts n ≡ Some t = subst (λ i. slice_get ts i ≡ Some t) last among.there in cc))
     (λ (earlier : among.index ≢ n). inl (record { index = among.index; below = let b = among.below in omega (arith, b, earlier); there = among.there }))
     (cases_eq among.index n)
-
-pub among_none : (ts : List ℕ) (t : ℕ) → IsAmong ts 0 t → ⊥
-among_none ts t among = let b = among.below in omega (arith, b)
 
 -- what stands at a place of the list is listed
 pub listed_at : (ts : List ℕ) (i t : ℕ) → slice_get ts i ≡ Some t → is_listed ts t ≡ true

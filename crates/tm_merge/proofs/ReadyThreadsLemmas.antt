@@ -1,21 +1,21 @@
 -- That the threads of ready events are listed, from step to step.
-use Rattle.std.proofs.Common.{◌≡◌, ◌≢◌, ℕ, ◌+◌, ◌-◌, ◌<◌, ◌≤◌, Bool, true, false, not, ◌==◌, ◌&&◌, ◌||◌, eqb, inl, inr, ⊎_elim, [], ◌∷◌, ◌++◌, filter, Option, Some, None, is_some, slice_get, length, Contains, refl, sym, ap, ◌∙◌, subst, arith}
+use Rattle.std.proofs.Common.{◌≡◌, ◌≢◌, ℕ, ◌+◌, ◌-◌, ◌<◌, ◌≤◌, Bool, true, false, cond, not, ◌==◌, ◌&&◌, ◌||◌, eqb, inl, inr, ⊎_elim, [], ◌∷◌, ◌++◌, filter, Option, Some, None, is_some, slice_get, length, Contains, refl, sym, ap, ◌∙◌, subst, arith}
 use Rattle.std.specs.Prelude.{MatchOption}
 use Rattle.std.specs.List.{IsDistinct}
 use Rattle.std.specs.Option.{option_or}
 use Rattle.std.specs.Vec.{vec_capacity}
-use Rattle.std.proofs.lemmas.Bool.{cases_Bool, cases_eq, cond-false, and_parts, and_from, and_left, eq-eqb, ne_eqb, eqb-true}
+use Rattle.std.proofs.lemmas.Bool.{cases_Bool, cases_eq, cond-false, and_parts, and_from, and_left, or_cases, eq-eqb, ne_eqb, eqb-true}
 use Rattle.std.proofs.lemmas.List.Sorted.{IsPermutation-sym, Contains-permutation}
 use Rattle.tm_base.specs.declared.events.Entry.{Entry}
 use Rattle.tm_merge.specs.declared.arrivals.Arrivals.{Arrivals}
 use Rattle.tm_merge.specs.declared.arrivals.showing.Candidate.{Candidate}
 use Rattle.tm_merge.specs.Candidates.{IsReadyIn, NoneReadyIn, IsAmong, IsBestIn, IsBestBelow, IsNextIn}
 use Rattle.tm_merge.specs.Places.{has_place, has_at, has_predecessors}
-use Rattle.tm_merge.specs.ReadyThreads.{is_listed, with_thread, ListsReady, ListsAllReady, KeepsAll}
+use Rattle.tm_merge.specs.ReadyThreads.{is_listed, with_thread, HasReady, ListsReady, ListsAllReady, ListsOnlyReady, KeepsAll}
 use Rattle.tm_merge.specs.Showing.{IsReady, IsSettled, IsSooner, Joins, Shows}
 use Rattle.tm_merge.specs.StoredArrivals.{found, occupants, KeepsArrivals, view_of}
 use Rattle.tm_merge.proofs.ListLemmas.{Contains-first, Contains-rest}
-use Rattle.tm_merge.proofs.ListingLemmas.{once-filter, once-with, listed-with, listed-without, listed_before, listed_room, among_all, among_more}
+use Rattle.tm_merge.proofs.ListingLemmas.{once-filter, once-with, listed-with, listed-without, listed_apart, listed_before, listed_room, among_all, among_more}
 use Rattle.tm_merge.proofs.NumberingLemmas.{found-snoc}
 
 -- an event that is sooner than one is sooner than all later ones
@@ -31,29 +31,6 @@ sooner_still a b c first second = ⊎_elim
     second)
     first
 
--- the list alone changes
-pub keeps-listed : (a b : Arrivals) → KeepsArrivals a → b.threads ≡ a.threads → b.objects ≡ a.objects → b.shown ≡ a.shown → b.slots ≡ a.slots → b.held ≡ a.held → KeepsArrivals b
-keeps-listed a b keeps threads objects shown slots held = rw (threads, objects, shown, slots, held) (record {
-  main = keeps.main;
-  threads = keeps.threads;
-  objects = keeps.objects;
-  thread_tails = keeps.thread_tails;
-  object_tails = keeps.object_tails;
-  numbered = keeps.numbered;
-  rise = keeps.rise;
-  count = keeps.count;
-  room = keeps.room;
-})
-
--- both stay
-pub lists-same : (a b : Arrivals) (skips : Entry → Bool) → ListsReady a skips → view_of b ≡ view_of a → length b.threads.items ≡ length a.threads.items → b.ready ≡ a.ready → ListsReady b skips
-lists-same a b skips lists view threads ready = record {
-  covers = λ e is_ready apart. subst (λ r. is_listed r.items e.thread ≡ true) (sym ready) (lists.covers e (subst (λ v. IsReady v e) view is_ready) apart);
-  known = λ t h. let old = lists.known t (subst (λ r. is_listed r.items t ≡ true) ready h) in omega (arith, old, threads);
-  once = subst (λ r. IsDistinct eqb r.items) (sym ready) lists.once;
-  room = let old = lists.room in let capacity = ap vec_capacity ready in omega (arith, old, capacity, threads);
-}
-
 -- as many threads, as the views say
 pub threads_same : (a b : Arrivals) → KeepsArrivals a → KeepsArrivals b → (view_of b).threads ≡ (view_of a).threads → length b.threads.items ≡ length a.threads.items
 threads_same a b keeps_a keeps_b same = let m = keeps_a.main in let n = keeps_b.main in omega (arith, m, n, same)
@@ -67,6 +44,74 @@ lists-new a slots ready room = record {
   once = subst (IsDistinct eqb) (sym ready) tt;
   room = room;
 }
+
+-- where a look finds one, an event of the thread is ready
+found_ready : (a : Arrivals) (t : ℕ) (r : Option Candidate) → is_some r ≡ true → MatchOption r (NoneReadyIn a t) (λ c. IsReadyIn a t c) → HasReady (view_of a) t
+found_ready a t None h none = absurd cc
+found_ready a t (Some c) h own = record { entry = c.entry; ready = own.ready; thread = own.thread }
+
+module _ (a b : Arrivals) (t : ℕ) (r : Option Candidate) (is : MatchOption r (NoneReadyIn a t) (λ c. IsReadyIn a t c)) (view : view_of b ≡ view_of a) where
+  -- the thread is listed, since an event of it is ready
+  pub only-with : (skips : ℕ → Bool) → is_some r ≡ true → b.ready.items ≡ with_thread a.ready.items t → ListsOnlyReady a skips → ListsOnlyReady b skips
+  only-with skips some items only = λ x h apart. subst (λ v. HasReady v x) (sym view) (⊎_elim
+      (λ (old : is_listed a.ready.items x ≡ true). only x old apart)
+      (λ (own : (t == x) ≡ true). subst (HasReady (view_of a)) (eqb-true t x own) (found_ready a t r some is))
+      (or_cases _ _ (sym (listed-with a.ready.items t x) ∙ subst (λ ts. is_listed ts x ≡ true) items h)))
+
+  -- it is taken from the list, since none is ready
+  pub only-without : b.ready.items ≡ filter (λ x. not (x == t)) a.ready.items → ListsOnlyReady a (λ x. x == t) → ListsOnlyReady b (λ _. false)
+  only-without items only = λ x h _.
+      let now = subst (λ ts. is_listed ts x ≡ true) items h in
+      subst (λ v. HasReady v x) (sym view) (only x (listed_before (λ y. not (y == t)) a.ready.items x now) (listed_apart a.ready.items t x now))
+
+  -- it stays in the list, since one is ready
+  pub only-still : is_some r ≡ true → b.ready ≡ a.ready → ListsOnlyReady a (λ x. x == t) → ListsOnlyReady b (λ _. false)
+  only-still some ready only = λ x h _.
+      let old = subst (λ v. is_listed v.items x ≡ true) ready h in
+      subst (λ v. HasReady v x) (sym view) (⊎_elim
+      (λ (own : (x == t) ≡ true). subst (HasReady (view_of a)) (sym (eqb-true x t own)) (found_ready a t r some is))
+      (λ (apart : (x == t) ≡ false). only x old apart)
+      (cases_Bool (x == t)))
+
+-- as an event arrives, each ready one stays ready
+pub only-joins : (a b : Arrivals) (e : Entry) → ListsOnlyReady a (λ _. false) → Joins (view_of a) e (view_of b) → b.ready ≡ a.ready → ListsOnlyReady b (λ _. false)
+only-joins a b e only joins ready = λ t h _.
+    let old = only t (subst (λ v. is_listed v.items t ≡ true) ready h) refl in
+    record {
+      entry = old.entry;
+      ready = record {
+        held = Contains-permutation (e ∷ (view_of a).held) (view_of b).held old.entry joins.held (Contains-rest e (view_of a).held old.entry old.ready.held);
+        after = subst (λ es. has_predecessors es old.entry ≡ true) (sym joins.shown) old.ready.after;
+      };
+      thread = old.thread;
+    }
+
+-- as one is shown, each ready one of another thread stays ready
+pub only-shows : (a b : Arrivals) (e : Entry) → ListsOnlyReady a (λ _. false) → Shows (view_of a) e (view_of b) → b.ready ≡ a.ready → ListsOnlyReady b (λ t. t == e.thread)
+only-shows a b e only shows ready = λ t h apart.
+    let old = only t (subst (λ v. is_listed v.items t ≡ true) ready h) refl in
+    let both = and_parts (has_place a.shown.items old.entry.thread (old.entry.place - 1)) (has_at a.shown.items old.entry.object (old.entry.at - 1)) old.ready.after in
+    record {
+      entry = old.entry;
+      ready = record {
+        held = ⊎_elim
+            (λ (same : old.entry ≡ e). let own = eq-eqb t e.thread (sym old.thread ∙ ap (λ (d : Entry). d.thread) same) in absurd cc)
+            (λ (other : Contains (view_of b).held old.entry). other)
+            (Contains-first e (view_of b).held old.entry (Contains-permutation (view_of a).held (e ∷ (view_of b).held) old.entry shows.held old.ready.held));
+        after = subst (λ es. has_predecessors es old.entry ≡ true) (sym shows.shown) (and_from (has_place (a.shown.items ++ e ∷ []) old.entry.thread (old.entry.place - 1)) (has_at (a.shown.items ++ e ∷ []) old.entry.object (old.entry.at - 1))
+            (more (λ d. d.thread) (λ d. d.place) old.entry.thread (old.entry.place - 1) both.0)
+            (more (λ d. d.object) (λ d. d.at) old.entry.object (old.entry.at - 1) both.1));
+      };
+      thread = old.thread;
+    }
+  where
+    still : (first : Bool) (o p : Option Entry) → (first || is_some o) ≡ true → (first || is_some (option_or o p)) ≡ true
+    still true o p h = refl
+    still false None p h = absurd cc
+    still false (Some x) p h = refl
+
+    more : (line number : Entry → ℕ) (k n : ℕ) → (n == 0 || is_some (found line number a.shown.items k n)) ≡ true → (n == 0 || is_some (found line number (a.shown.items ++ e ∷ []) k n)) ≡ true
+    more line number k n h = ap (λ o. n == 0 || is_some o) (found-snoc line number a.shown.items e k n) ∙ still (n == 0) (found line number a.shown.items k n) (cond (line e == k && number e == n) (Some e) None) h
 
 module _ (a : Arrivals) where
   -- there is room for a thread that isn't listed
@@ -100,14 +145,6 @@ module _ (a : Arrivals) where
       now x h = subst (λ ts. is_listed ts x ≡ true) (sym items) (listed-with a.ready.items t x ∙ h)
 
   -- a thread with no ready event needn't be listed
-  pub lists-none : (t : ℕ) → ListsReady a (λ e. e.thread == t) → NoneReadyIn a t → ListsAllReady a
-  lists-none t lists none = record {
-    covers = λ e ready _. lists.covers e ready (ne_eqb e.thread t (none e ready));
-    known = lists.known;
-    once = lists.once;
-    room = lists.room;
-  }
-
   pub lists-without : (b : Arrivals) (t : ℕ) → ListsAllReady a → NoneReadyIn a t → view_of b ≡ view_of a → length b.threads.items ≡ length a.threads.items
       → b.ready.items ≡ filter (λ x. not (x == t)) a.ready.items → vec_capacity b.ready ≡ vec_capacity a.ready → ListsAllReady b
   lists-without b t lists none view threads items capacity = record {

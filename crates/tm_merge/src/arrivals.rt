@@ -1,8 +1,8 @@
-ghost use Rattle.std.specs.Prelude.{◌≡◌, ◌<◌, ◌≤◌, length, None, OnOk, IfOk, All};
+ghost use Rattle.std.specs.Prelude.{◌≡◌, false, ◌<◌, ◌≤◌, length, None, OnOk, IfOk, All};
 ghost use Rattle.tm_merge.specs.Lines.{IsNewLine};
 ghost use Rattle.tm_merge.specs.MergerViews.{arrived, nothing_arrived};
 ghost use Rattle.tm_merge.specs.Places.{at_place, at_object};
-ghost use Rattle.tm_merge.specs.ReadyThreads.{KeepsAll, ListsAllReady};
+ghost use Rattle.tm_merge.specs.ReadyThreads.{KeepsAll, ListsAllReady, ListsOnlyReady};
 ghost use Rattle.tm_merge.specs.Refusals.{refusal};
 ghost use Rattle.tm_merge.specs.Showing.{Joins};
 ghost use Rattle.tm_merge.specs.StoredArrivals.{HasRoomFor, KeepsArrivals, view_of};
@@ -70,6 +70,7 @@ impl Arrivals {
     pub(crate) fn make(alloc: Global, threads: u32, objects: u32) -> Result<Arrivals, NoMemory>
         ensures keeps { IfOk result KeepsArrivals }
         ensures lists { IfOk result ListsAllReady }
+        ensures only { IfOk result (λ arrivals. ListsOnlyReady arrivals (λ _. false)) }
         ensures view { IfOk result (λ arrivals. view_of arrivals ≡ nothing_arrived threads objects) }
     {
         let ready = Vec::with_capacity(alloc, threads as usize + 1)?;

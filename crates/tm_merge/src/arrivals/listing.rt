@@ -1,7 +1,7 @@
-ghost use Rattle.std.specs.Prelude.{◌≡◌, ◌<◌, ◌==◌, not, false, length, filter, IfSome, Some};
+ghost use Rattle.std.specs.Prelude.{◌≡◌, ℕ, Bool, ◌<◌, ◌==◌, not, false, length, filter, IfSome, Some};
 ghost use Rattle.std.specs.Vec.{vec_capacity};
 ghost use Rattle.tm_base.specs.declared.events.Entry.{Entry};
-ghost use Rattle.tm_merge.specs.ReadyThreads.{is_listed, with_thread, ListsAllReady, ListsReady};
+ghost use Rattle.tm_merge.specs.ReadyThreads.{is_listed, with_thread, ListsAllReady, ListsOnlyReady, ListsReady};
 ghost use Rattle.tm_merge.specs.Showing.{IsReady};
 ghost use Rattle.tm_merge.specs.StoredArrivals.{KeepsArrivals, view_of};
 
@@ -37,6 +37,7 @@ impl Arrivals {
         ensures keeps { KeepsArrivals self.new }
         ensures same { view_of self.new ≡ view_of self.old }
         ensures lists { ListsAllReady self.new }
+        ensures only { (skips : ℕ → Bool) → ListsOnlyReady self.old skips → ListsOnlyReady self.new skips }
     {
         if self.ready_in(thread as usize).is_some() {
             list_thread(&mut self.ready, thread);
@@ -48,9 +49,11 @@ impl Arrivals {
         requires keeps { KeepsArrivals self.old }
         requires known { thread < length self.old.threads.items }
         requires lists { ListsAllReady self.old }
+        requires only { ListsOnlyReady self.old (λ t. t == thread) }
         ensures keeps { KeepsArrivals self.new }
         ensures same { view_of self.new ≡ view_of self.old }
         ensures lists { ListsAllReady self.new }
+        ensures only { ListsOnlyReady self.new (λ _. false) }
     {
         if self.ready_in(thread as usize).is_none() {
             unlist_thread(&mut self.ready, thread);
@@ -76,6 +79,7 @@ impl Arrivals {
         ensures keeps { KeepsArrivals self.new }
         ensures same { view_of self.new ≡ view_of self.old }
         ensures lists { ListsAllReady self.new }
+        ensures only { (skips : ℕ → Bool) → ListsOnlyReady self.old skips → ListsOnlyReady self.new skips }
     {
         let Some(event) = self.next_at(object) else {
             return;
