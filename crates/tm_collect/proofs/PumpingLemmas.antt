@@ -44,7 +44,7 @@ module _ (v : CollectorView) (k : ℕ) (m : MergerView) (kept : IsCollecting v) 
             extends = shown-advanced v k m kept settles order y w shows.rows same shows.advances;
             count = omega (arith, number, count);
             exercise = same;
-            long = going;
+            ample = going;
             outcome = outcome;
           }),
         )

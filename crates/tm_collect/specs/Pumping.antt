@@ -23,7 +23,7 @@ pub record Pumps (v w : CollectorView) (o p : Outlet) (n : ℕ) : Type 0 where
   pub extends : shown_of w ≡ shown_of v ++ shows.advances.news
   pub count : n ≡ length shows.advances.news
   pub exercise : w.exercise ≡ v.exercise
-  pub long : w.short ≡ false
+  pub ample : w.short ≡ false
   pub outcome : MatchOption w.refusal (shown_of w ≡ w.merger.shown) (IsOfNext w)
 
 -- Nothing was done.

@@ -8,3 +8,6 @@ mod writers;
 
 pub use collectors::Collector;
 pub use refusals::Refusal;
+
+#[cfg(test)]
+mod tests;
