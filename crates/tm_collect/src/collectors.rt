@@ -132,7 +132,7 @@ impl<'x> Collector<'x> {
         &self.writer.joint
     }
 
-    /// Whether a write failed: the sink's count rose in a `pump`.
+    /// Whether a write failed: true exactly where the sink counted a fault in a `pump`.
     pub fn write_fault(&self) -> bool
         ensures { result ≡ self.now.write_fault }
     {

@@ -10,7 +10,7 @@ use tm_outside::{Sink, write_all};
 use tm_text::Exercise;
 use tm_timeline::row;
 
-/// One more than the greatest number of events that a replayer takes. No memory holds so many.
+/// The greatest number of events that a replayer takes. No memory holds so many.
 const MOST_EVENTS: u64 = 1 << 62;
 
 /// Why a writer went no further.
