@@ -131,6 +131,32 @@ fn two_threads_add_to_one_variable(rt: HostRuntime) -> Result<(), Fail> {
     Ok(())
 }
 
+#[test]
+fn while_one_objects_turn_is_held_anothers_is_free(rt: HostRuntime) -> Result<(), Fail> {
+    let book = Book::make(rt.alloc(), 7, Kind::Mutex, 2)?;
+    let (held, mut root) = Shared::make(rt.alloc(), book)?;
+    let mut holder = held.split(&mut root, 1);
+    let mut rival = held.split(&mut root, 2);
+    let book = Book::make(rt.alloc(), 8, Kind::Mutex, 2)?;
+    let (free, mut root) = Shared::make(rt.alloc(), book)?;
+    let mut pass = free.split(&mut root, 2);
+    let mut ticket = Ticket::make(2);
+
+    let Ok(turn) = held.turn.try_take(&mut holder) else {
+        panic!(rt; "nobody holds it")
+    };
+    let Err(TryFault::Busy(number)) = held.try_begin(&mut rival, &mut ticket, Op::Lock) else {
+        panic!(rt; "it is held")
+    };
+    assert_eq!(rt; number, 1);
+    let Ok(entry) = free.try_begin(&mut pass, &mut ticket, Op::Lock) else {
+        panic!(rt; "nobody holds it")
+    };
+    assert_eq!(rt; entry.reply, Reply::Ok);
+    held.turn.give(&mut holder, turn);
+    Ok(())
+}
+
 /// Pass 1 makes a call, and pass 2, which has made none, meets it.
 fn meet_after_a_call(
     lock: &Shared,
