@@ -13,7 +13,7 @@ use std::test::Fail;
 use tm_base::{Ask, Body, Kind, NoMemory, Op, Reply, Sequence};
 use tm_book::Book;
 use tm_outside::NoGate;
-use tm_ring::ring;
+use tm_ring::{Inbox, close, ring};
 use tm_shared::{Pass, Shared};
 
 /// A program that locks the mutex with number 2, unlocks it, and is over. It knows how often it was asked.
@@ -75,30 +75,34 @@ fn worker(
     thread: u32,
     passes: Vec<Pass>,
     limit: u32,
-) -> Result<Worker<LocksOnce>, NoMemory>
+) -> Result<(Worker<LocksOnce>, Inbox), NoMemory>
     requires thread { (1 ≤ thread) × (thread ≤ 2) }
     requires passes { AreFreshPasses thread passes.items }
     requires limit { (1 ≤ limit) × (limit ≤ 10000) }
-    ensures passes { IfOk result (λ worker. worker.log.passes ≡ passes.items) }
-    ensures ticket { IfOk result (λ worker. worker.log.ticket ≡ opening thread) }
+    ensures passes { IfOk result (λ made. made.0.log.passes ≡ passes.items) }
+    ensures ticket { IfOk result (λ made. made.0.log.ticket ≡ opening thread) }
+    ensures ring { IfOk result (λ made. made.1.ring ≡ made.0.log.outbox.ring) }
 {
-    let (outbox, _) = ring(alloc, 64)?;
+    let (outbox, inbox) = ring(alloc, 64)?;
     let passes = Sequence::from_vec(passes);
-    let made = Worker::make(alloc, LocksOnce { asked: 0 }, thread, passes, outbox, limit);
-    made.map_err(|_| NoMemory)
+    match Worker::make(alloc, LocksOnce { asked: 0 }, thread, passes, outbox, limit) {
+        Ok(worker) => Ok((worker, inbox)),
+        Err(_) => Err(NoMemory),
+    }
 }
 
 /// The objects of two threads and a mutex, and a worker for each thread.
 fn scene(
     alloc: Global,
     limit: u32,
-) -> Result<(Vec<Shared>, Worker<LocksOnce>, Worker<LocksOnce>), NoMemory>
+) -> Result<(Vec<Shared>, Worker<LocksOnce>, Worker<LocksOnce>, Inbox), NoMemory>
     requires limit { (1 ≤ limit) × (limit ≤ 10000) }
     ensures suits_first { IfOk result (λ s. SuitsPasses s.0.items s.1.log.passes s.1.log.ticket.thread) }
     ensures suits_second { IfOk result (λ s. SuitsPasses s.0.items s.2.log.passes s.2.log.ticket.thread) }
     ensures own_first { IfOk result (λ s. HasOwn s.0.items s.1.log.ticket.thread) }
     ensures own_second { IfOk result (λ s. HasOwn s.0.items s.2.log.ticket.thread) }
     ensures mutex { IfOk result (λ s. slice_get (kinds_of s.0.items) 2 ≡ Some kind.Mutex) }
+    ensures ring { IfOk result (λ s. s.3.ring ≡ s.1.log.outbox.ring) }
 {
     let first = Kind::Thread {
         own: 1,
@@ -111,9 +115,9 @@ fn scene(
     let (a, a1, a2) = object(alloc, 0, first)?;
     let (b, b1, b2) = object(alloc, 1, second)?;
     let (m, m1, m2) = object(alloc, 2, Kind::Mutex)?;
-    let one = worker(alloc, 1, vec![in alloc; a1, b1, m1]?, limit)?;
-    let two = worker(alloc, 2, vec![in alloc; a2, b2, m2]?, limit)?;
-    Ok((vec![in alloc; a, b, m]?, one, two))
+    let (one, inbox) = worker(alloc, 1, vec![in alloc; a1, b1, m1]?, limit)?;
+    let (two, _) = worker(alloc, 2, vec![in alloc; a2, b2, m2]?, limit)?;
+    Ok((vec![in alloc; a, b, m]?, one, two, inbox))
 }
 
 /// Turns the worker once.
@@ -139,7 +143,7 @@ const END: Op = Op::End { cut: false };
 
 #[test]
 fn two_workers_lock_one_mutex_by_turns(rt: HostRuntime) -> Result<(), Fail> {
-    let (shared, mut a, mut b) = scene(rt.alloc(), 1000)?;
+    let (shared, mut a, mut b, _) = scene(rt.alloc(), 1000)?;
     let shared = shared.as_slice();
     assert_eq!(rt;
         made(turned(&mut a, shared)),
@@ -178,12 +182,24 @@ fn two_workers_lock_one_mutex_by_turns(rt: HostRuntime) -> Result<(), Fail> {
 
 #[test]
 fn a_worker_ends_cut_at_its_limit(rt: HostRuntime) -> Result<(), Fail> {
-    let (shared, mut a, _) = scene(rt.alloc(), 1)?;
+    let (shared, mut a, _, _) = scene(rt.alloc(), 1)?;
     a.run(&rt, shared.as_slice(), &NoGate);
     assert!(rt; !a.short() && !a.worn());
     let home = a.home();
     assert_eq!(rt; (home.ticket.next(), home.ticket.clock()), (4, 3));
     assert_eq!(rt; home.body.asked, 2);
     assert_eq!(rt; home.passes.len(), 3);
+    Ok(())
+}
+
+#[test]
+fn what_a_worker_makes_is_sent_once(rt: HostRuntime) -> Result<(), Fail> {
+    let (shared, mut worker, _, inbox) = scene(rt.alloc(), 1)?;
+    let Turned::Made(begin) = worker.turn(shared.as_slice(), &NoGate) else {
+        panic!(rt; "nobody else is there")
+    };
+    let mut rest = close(worker.home().outbox, inbox);
+    assert_eq!(rt; rest.next(), Some(begin));
+    assert_eq!(rt; rest.next(), None);
     Ok(())
 }
