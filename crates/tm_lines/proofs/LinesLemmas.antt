@@ -7,20 +7,20 @@ use Rattle.tm_lines.specs.Lines.{put_first, lines_of, without_cr, is_blank, word
 use Rattle.tm_lines.specs.Lines.{is_lf}
 
 -- the first element fails the test
-stops : (t : Bool) (m : ℕ) → cond t (1 + m) 0 ≡ 0 → t ≡ false
+pub stops : (t : Bool) (m : ℕ) → cond t (1 + m) 0 ≡ 0 → t ≡ false
 stops true m e = absurd (omega arith)
 stops false m e = refl
 
 -- it passes, and so do the others in front
-goes_on : (t : Bool) (m n : ℕ) → cond t (1 + m) 0 ≡ suc n → (t ≡ true) × (m ≡ n)
+pub goes_on : (t : Bool) (m n : ℕ) → cond t (1 + m) 0 ≡ suc n → (t ≡ true) × (m ≡ n)
 goes_on true m n e = (refl, omega arith)
 goes_on false m n e = absurd (omega arith)
 
-not_false : (t : Bool) → not t ≡ false → t ≡ true
+pub not_false : (t : Bool) → not t ≡ false → t ≡ true
 not_false true e = refl
 not_false false e = sym e
 
-not_true : (t : Bool) → not t ≡ true → t ≡ false
+pub not_true : (t : Bool) → not t ≡ true → t ≡ false
 not_true true e = sym e
 not_true false e = refl
 

@@ -1,5 +1,5 @@
 -- The first words of lines, where they may stand, and what the words after them have to be.
-use Rattle.std.specs.Prelude.{ℕ, suc, pos, Bool, not, ◌||◌, ◌==◌, List, [], ◌∷◌, ◌++◌, map, length, codes, Option}
+use Rattle.std.specs.Prelude.{ℕ, suc, pos, Bool, true, not, ◌&&◌, ◌||◌, ◌==◌, List, [], ◌∷◌, ◌++◌, map, length, codes, Option}
 use Rattle.std.specs.List.{find}
 use Rattle.std.specs.Str.{bytes_eq}
 use Rattle.tm_base.specs.declared.opcodes.Opcode.{Opcode}
@@ -40,6 +40,12 @@ abbrev pub declarators : List Declarator
 declarators =
     declares.Mutex ∷ declares.Rwlock ∷ declares.Sync ∷ declares.Sem ∷ declares.Monitor ∷ declares.Barrier ∷ declares.Async
     ∷ declares.Var ∷ declares.Thread ∷ []
+
+-- The word begins with these bytes, as far as it has two.
+abbrev pub begins_with : ℕ → ℕ → List ℕ → Bool
+begins_with a b [] = true
+begins_with a b (x ∷ []) = x == a
+begins_with a b (x ∷ y ∷ w) = x == a && y == b
 
 -- The operations that a program can ask.
 abbrev pub asked_opcodes : List Opcode

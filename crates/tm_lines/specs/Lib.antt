@@ -6,6 +6,7 @@ pub mod LineFaults
 pub mod TextFaults
 pub mod KnownNames
 pub mod Places
+pub mod PlainLines
 pub mod Found
 pub mod Saying
 pub mod Checks

@@ -1,13 +1,17 @@
 ghost use Rattle.std.specs.Prelude.{◌≡◌, ◌≤◌, false, true, length, IfOk};
 ghost use Rattle.tm_lines.specs.Checks.{Follows, before, fault_left, is_empty};
-ghost use Rattle.tm_lines.specs.TextFaults.{first_fault};
+ghost use Rattle.tm_lines.specs.KnownNames.{known_in};
+ghost use Rattle.tm_lines.specs.PlainLines.{IsPlainLine};
+ghost use Rattle.tm_lines.specs.TextFaults.{first_fault, text_lines};
 
 use crate::faults::{Fault, FaultyLine};
 use crate::limits::MOST_BYTES;
 use crate::lines::{first_line, without_cr};
-use crate::names::Names;
+use crate::names::{Known, Names};
 use crate::places::Place;
+use crate::plain_lines::plain_line;
 use crate::saying::Line;
+use crate::words::Words;
 use std::alloc::Global;
 use std::marker::Model;
 use tm_base::NoMemory;
@@ -19,17 +23,22 @@ pub struct Checker<'a> {
     number: u64,
     place: Place<'a>,
     rest: &'a [u8],
+    last_name: &'a [u8],
+    last_known: Option<Known>,
 }
 
 impl<'a> Model for Checker<'a> {
-    ghost use Rattle.std.specs.Prelude.{◌+◌, ◌<◌, ◌^◌, length};
+    ghost use Rattle.std.specs.Prelude.{◌≡◌, ◌+◌, ◌<◌, ◌^◌, length};
     ghost use Rattle.tm_lines.specs.Checks.{Check};
+    ghost use Rattle.tm_lines.specs.KnownNames.{known_in};
+    ghost use Rattle.tm_lines.specs.TextFaults.{text_lines};
 
     ghost Value = { Check };
 
     ghost view = { λ a. record { text = a.names; number = a.number; place = a.place; rest = a.rest.now } };
 
-    ghost invariant = { λ a. a.number + length a.rest.now < 2 ^ 64 };
+    ghost invariant = { λ a. (a.number + length a.rest.now < 2 ^ 64)
+        × (a.last_known ≡ known_in (text_lines a.names) a.last_name.now) };
 }
 
 impl<'a> Checker<'a> {
@@ -44,6 +53,8 @@ impl<'a> Checker<'a> {
             number: 1,
             place: Place::new(),
             rest: text,
+            last_name: b"",
+            last_known: None,
         })
     }
 
@@ -66,11 +77,49 @@ impl<'a> Checker<'a> {
         requires { is_empty self.old.rest ≡ false }
         ensures { Follows self.old result self.new }
     {
+        match plain_line(self.rest) {
+            None => self.next_any_line(),
+            Some((words, rest)) => self.next_plain_line(&words, rest),
+        }
+    }
+
+    /// Looks at the next line, of whatever form.
+    fn next_any_line(&mut self) -> Line<'a>
+        requires { is_empty self.old.rest ≡ false }
+        ensures { Follows self.old result self.new }
+    {
         let (line, rest) = first_line(self.rest);
         let number = self.number;
         self.rest = rest;
         self.number += 1;
         self.place.take(&self.names, number, without_cr(line))
+    }
+
+    /// Looks at the next line, which is plain, and has these words and this rest behind it.
+    fn next_plain_line(&mut self, words: &Words<'a>, rest: &'a [u8]) -> Line<'a>
+        requires { IsPlainLine self.old.rest words.now rest.now }
+        ensures { Follows self.old result self.new }
+    {
+        let number = self.number;
+        self.rest = rest;
+        self.number += 1;
+        if words.are_ignored() {
+            return Line::Ignored;
+        }
+        let known = self.known(words.second);
+        self.place.take_words(known, number, words)
+    }
+
+    /// What is known of the name. Lines in a row often name one object, so the last name isn't looked up again.
+    fn known(&mut self, name: &'a [u8]) -> Option<Known>
+        ensures known { result ≡ known_in (text_lines self.old.text) name.now }
+        ensures same { self.new ≡ self.old }
+    {
+        if name != self.last_name {
+            self.last_known = self.names.known(name);
+            self.last_name = name;
+        }
+        self.last_known
     }
 
     /// The first fault of the lines that are left, and of the end.

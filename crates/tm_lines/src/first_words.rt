@@ -1,9 +1,10 @@
 ghost use Rattle.std.specs.Prelude.{◌≡◌, ◌∷◌};
-ghost use Rattle.std.specs.List.{find};
+ghost use Rattle.std.specs.List.{find, list_any};
+ghost use Rattle.std.specs.Option.{option_to_list};
 ghost use Rattle.std.specs.Str.{bytes_eq};
 ghost use Rattle.tm_base.specs.Opcodes.{word_of};
 ghost use Rattle.tm_lines.specs.LineFaults.{opens};
-ghost use Rattle.tm_lines.specs.FirstWords.{asked_opcodes, declarators, own_words, declarator_slots, declarator_word, first_word_of, has_count, is_allowed, operand_slots, slots_of, spelling};
+ghost use Rattle.tm_lines.specs.FirstWords.{asked_opcodes, begins_with, declarators, own_words, declarator_slots, declarator_word, first_word_of, has_count, is_allowed, operand_slots, slots_of, spelling};
 
 use crate::limits::{
     GREATEST_NUMBER, LEAST_NUMBER, MOST_CAPACITY, MOST_CONDITIONS, MOST_PARTIES, MOST_START,
@@ -160,6 +161,24 @@ impl Declarator {
         }
     }
 
+    /// Whether a word that begins with these bytes may declare, or one that is the first of them alone.
+    pub(crate) fn can_begin(first: u8, second: u8) -> bool
+        ensures { result ≡ list_any (λ d. begins_with first second (declarator_word d)) declarators }
+    {
+        matches!(
+            (first, second),
+            (b'm', b'u')
+                | (b'r', b'w')
+                | (b's', b'y')
+                | (b's', b'e')
+                | (b'm', b'o')
+                | (b'b', b'a')
+                | (b'a', b's')
+                | (b'v', b'a')
+                | (b't', b'h')
+        )
+    }
+
     /// How it is spelled.
     fn word(self) -> &'static [u8]
         ensures { result.now ≡ declarator_word self }
@@ -258,5 +277,15 @@ fn operand_slots(opcode: Opcode) -> &'static [Slot]
         Opcode::Wait | Opcode::Signal | Opcode::Broadcast => &[Slot::KnownName, Slot::Condition],
         Opcode::Send | Opcode::Write | Opcode::Add => &[Slot::KnownName, Slot::Value],
         _ => &[Slot::KnownName],
+    }
+}
+
+/// What the operation has beside the name of an object.
+pub(crate) fn operand_slot(opcode: Opcode) -> Option<Slot>
+    ensures { option_to_list result ≡ operand_slots opcode }
+{
+    match operand_slots(opcode) {
+        [_, slot, ..] => Some(*slot),
+        _ => None,
     }
 }

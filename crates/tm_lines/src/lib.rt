@@ -12,6 +12,7 @@ mod lines;
 mod names;
 mod numerals;
 mod places;
+mod plain_lines;
 mod saying;
 mod slots;
 #[cfg(test)]

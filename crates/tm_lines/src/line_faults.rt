@@ -1,5 +1,6 @@
 ghost use Rattle.std.specs.Prelude.{◌≡◌, ℕ, ◌&&◌, false, drop, length, nat_le, List, Some, None, option_map, IfNone, MatchResult};
 ghost use Rattle.std.specs.List.{find};
+ghost use Rattle.tm_lines.specs.declared.first_words.FirstWord.TheVariants.{Calls};
 ghost use Rattle.tm_lines.specs.FirstWords.{first_word_of, slots_of};
 ghost use Rattle.tm_lines.specs.Found.{applies_by, block_fault, found_by, name_fault};
 ghost use Rattle.tm_lines.specs.KnownNames.{known_in, number_known};
@@ -8,10 +9,10 @@ ghost use Rattle.tm_lines.specs.Lines.{words_of};
 ghost use Rattle.tm_lines.specs.NamedLines.{word_at};
 ghost use Rattle.tm_lines.specs.TextFaults.{named_in, text_lines};
 ghost use Rattle.tm_lines.specs.Checks.{IsLine};
-ghost use Rattle.tm_lines.specs.Saying.{AreFirst, HasRoom};
+ghost use Rattle.tm_lines.specs.Saying.{AreFirst, HasRoom, IsReadBy};
 
 use crate::faults::{Fault, FaultyLine};
-use crate::first_words::FirstWord;
+use crate::first_words::{FirstWord, Slot, operand_slot};
 use crate::found::Found;
 use crate::lines::is_printed;
 use crate::names::{Known, Names};
@@ -19,13 +20,17 @@ use crate::places::Place;
 use crate::saying::{Line, Said};
 use crate::slots::found_in;
 use crate::words::Words;
-use tm_base::Kind;
+use tm_base::{Kind, Opcode};
 
 /// What is wrong with a line that isn't ignored and stands at this place, where the text has these names.
 pub fn fault_of_line(names: &Names, place: &Place, line: &[u8]) -> Option<Fault>
     ensures { result ≡ fault_of_line (named_in (text_lines names.now)) place.now line.now }
 {
-    match judge(names, place, line, &Words::of_line(line)) {
+    if !is_printed(line) {
+        return Some(Fault::Byte);
+    }
+    let words = Words::of_line(line);
+    match judge(place, names.known(words.second), &words) {
         Ok(_) => None,
         Err(fault) => Some(fault),
     }
@@ -40,13 +45,33 @@ impl<'a> Place<'a> {
         if words.are_ignored() {
             return Line::Ignored;
         }
-        match judge(names, self, line, &words) {
-            Ok((first, object)) => {
+        if !is_printed(line) {
+            return Line::Faulty(FaultyLine {
+                line: number,
+                kind: Fault::Byte,
+            });
+        }
+        self.take_words(names.known(words.second), number, &words)
+    }
+
+    /// The same by the words of a line that isn't ignored, and whose bytes all print. This is known of the name that
+    /// its second word may be.
+    pub(crate) fn take_words(
+        &mut self,
+        known: Option<Known>,
+        number: u64,
+        words: &Words<'a>,
+    ) -> Line<'a>
+        ensures { (lines : List (List ℕ)) (line : List ℕ) → IsReadBy lines line words.now known
+            → IsLine lines number self.old line result self.new }
+    {
+        match judge(self, known, words) {
+            Ok(first) => {
                 self.go_on(first, words.second);
                 Line::Said(Said {
                     first,
-                    words,
-                    object,
+                    words: *words,
+                    object: number_of(known),
                 })
             }
             Err(kind) => Line::Faulty(FaultyLine { line: number, kind }),
@@ -54,31 +79,22 @@ impl<'a> Place<'a> {
     }
 }
 
-/// The first word of the line with these words, and the number of the object that it names, or 0 where it names
-/// none; or what is wrong with the line.
-fn judge(
-    names: &Names,
-    place: &Place,
-    line: &[u8],
-    words: &Words,
-) -> Result<(FirstWord, u32), Fault>
-    requires words { AreFirst words.now (words_of line.now) }
-    ensures said { MatchResult result
-        (λ said. (fault_of_line (named_in (text_lines names.now)) place.now line.now ≡ None)
-        × (first_word_of (word_at 0 (words_of line.now)) ≡ Some said.0)
-        × (said.1 ≡ number_known (known_in (text_lines names.now) (word_at 1 (words_of line.now)))))
-        (λ fault. fault_of_line (named_in (text_lines names.now)) place.now line.now ≡ Some fault) }
-    ensures room { MatchResult result (λ said. HasRoom place.now said.0) (λ _. Unit {0}) }
+/// The first word of a line with these words, or what is wrong with them, where this is known of the name that the
+/// second word may be.
+fn judge(place: &Place, known: Option<Known>, words: &Words) -> Result<FirstWord, Fault>
+    ensures said { (ws : List (List ℕ)) → AreFirst words.now ws → MatchResult result
+        (λ first. (fault_of_words place.now (option_map (λ known. known.kind) known) ws
+        (first_word_of (word_at 0 ws)) ≡ None)
+        × (first_word_of (word_at 0 ws) ≡ Some first))
+        (λ fault. fault_of_words place.now (option_map (λ known. known.kind) known) ws
+        (first_word_of (word_at 0 ws)) ≡ Some fault) }
+    ensures room { MatchResult result (λ first. HasRoom place.now first) (λ _. Unit {0}) }
 {
-    if !is_printed(line) {
-        return Err(Fault::Byte);
-    }
     let Some(first) = FirstWord::of_word(words.first) else {
         return Err(Fault::Word);
     };
-    let known = names.known(words.second);
     match fault_of_words(place, first, kind_of(known), words) {
-        None => Ok((first, number_of(known))),
+        None => Ok(first),
         Some(fault) => Err(fault),
     }
 }
@@ -170,6 +186,37 @@ fn block_fault(place: &Place, first: FirstWord) -> Option<Fault>
 
 /// What the words after this first word break in its slots.
 fn found_by(place: &Place, first: FirstWord, kind: Option<Kind>, words: &Words) -> Found
+    ensures { (ws : List (List ℕ)) → AreFirst words.now ws
+        → result ≡ found_by place.now first kind (slots_of first) (drop 1 ws) }
+{
+    match first {
+        FirstWord::Calls(opcode) => found_in_call(place, opcode, kind, words),
+        _ => found_in_slots(place, first, kind, words),
+    }
+}
+
+/// What the words of a call break. Most lines call, and each call has a name and one operand at most, so that no
+/// slots are gone over.
+fn found_in_call(place: &Place, opcode: Opcode, kind: Option<Kind>, words: &Words) -> Found
+    ensures { (ws : List (List ℕ)) → AreFirst words.now ws
+        → result ≡ found_by place.now (Calls opcode) kind (slots_of (Calls opcode)) (drop 1 ws) }
+{
+    if words.count <= 1 {
+        return Found::NOTHING;
+    }
+    let first = FirstWord::Calls(opcode);
+    let name = found_in(place, first, kind, Slot::KnownName, words.second);
+    if words.count <= 2 {
+        return name;
+    }
+    match operand_slot(opcode) {
+        None => name,
+        Some(slot) => name.or(found_in(place, first, kind, slot, words.third)),
+    }
+}
+
+/// What the words after any first word break in its slots.
+fn found_in_slots(place: &Place, first: FirstWord, kind: Option<Kind>, words: &Words) -> Found
     ensures { (ws : List (List ℕ)) → AreFirst words.now ws
         → result ≡ found_by place.now first kind (slots_of first) (drop 1 ws) }
 {

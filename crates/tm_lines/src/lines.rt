@@ -64,7 +64,7 @@ fn line_len(bytes: &[u8]) -> usize
 }
 
 /// How many blanks the line begins with.
-fn blank_len(line: &[u8]) -> usize
+pub(crate) fn blank_len(line: &[u8]) -> usize
     ensures { result ≡ prefix_len is_blank line.now }
 {
     line.iter().take_while(|b| is_blank(**b)).count()
@@ -78,7 +78,7 @@ fn word_len(line: &[u8]) -> usize
 }
 
 /// Whether the byte separates words.
-fn is_blank(byte: u8) -> bool
+pub(crate) fn is_blank(byte: u8) -> bool
     ensures { result ≡ is_blank byte }
 {
     byte == b' ' || byte == b'\t'

@@ -1,4 +1,4 @@
-ghost use Rattle.std.specs.Prelude.{◌≡◌, ℕ, ◌+◌, pos, ◌^◌, ◌≤◌, ◌<◌, ◌<ℤ◌, ◌≤ℤ◌, ◌∷◌, List, Some, length, option_map, IfOk, OnOk};
+ghost use Rattle.std.specs.Prelude.{◌≡◌, ℕ, ◌+◌, pos, ◌^◌, ◌≤◌, ◌<◌, ◌<ℤ◌, ◌≤ℤ◌, ◌∷◌, false, List, None, Some, length, option_map, IfOk, OnOk};
 ghost use Rattle.std.specs.HashMap as hash;
 ghost use Rattle.std.specs.Option.{option_or};
 ghost use Rattle.std.specs.Str.{bytes_eq};
@@ -13,7 +13,7 @@ use crate::limits::{
     GREATEST_NUMBER, LEAST_NUMBER, MOST_BYTES, MOST_CAPACITY, MOST_CONDITIONS, MOST_PARTIES,
     MOST_START,
 };
-use crate::lines::{first_line, first_word, without_cr};
+use crate::lines::{first_line, first_word, is_blank, without_cr};
 use crate::numerals::number;
 use crate::words::Words;
 use std::alloc::Global;
@@ -92,9 +92,23 @@ impl<'a> Names<'a> {
 fn declarator(line: &[u8]) -> Option<Declarator>
     ensures { result ≡ declarator_of (first_word_of (word_at 0 (words_of line.now))) }
 {
+    if !may_declare(line) {
+        return None;
+    }
     match first_word(line) {
         None => None,
         Some((word, _)) => Declarator::of_word(word),
+    }
+}
+
+/// Whether the line's first word may declare an object, by its first bytes. Most lines declare nothing, and are
+/// passed over before a word is cut.
+fn may_declare(line: &[u8]) -> bool
+    ensures { result ≡ false → declarator_of (first_word_of (word_at 0 (words_of line.now))) ≡ None }
+{
+    match line {
+        [first, second, ..] => is_blank(*first) || Declarator::can_begin(*first, *second),
+        _ => true,
     }
 }
 

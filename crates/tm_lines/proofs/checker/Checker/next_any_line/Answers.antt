@@ -3,7 +3,7 @@ use Rattle.tm_lines.specs.Checks.{Check}
 use Rattle.tm_lines.specs.Lines.{without_cr}
 use Rattle.tm_lines.specs.TextFaults.{text_lines}
 use Rattle.tm_lines.proofs.ChecksLemmas.{follows}
-use Rattle.tm_lines.proofs.checker.Checker.next_line.Goals as goal
+use Rattle.tm_lines.proofs.checker.Checker.next_any_line.Goals as goal
 
 pub returns : goal.returns
 returns c =
