@@ -1,12 +1,16 @@
 -- What the reader of lines says of a line without a fault.
-use Rattle.std.specs.Prelude.{◌≡◌, ℕ, false, ◌&&◌, nat_le, true, List, length, Option, Some}
+use Rattle.std.specs.Prelude.{◌≡◌, ℕ, false, ◌&&◌, nat_le, true, List, drop, length, Option, Some}
 use Rattle.std.specs.List.{list_all}
+use Rattle.tm_base.specs.declared.kinds.Kind.{Kind}
+use Rattle.tm_base.specs.declared.opcodes.Opcode.{Opcode}
 use Rattle.tm_programs.specs.declared.limits.TheConstants.{MOST_BLOCKS}
 use Rattle.tm_lines.specs.declared.first_words.FirstWord.{FirstWord}
+use Rattle.tm_lines.specs.declared.first_words.FirstWord.TheVariants.{Calls}
 use Rattle.tm_lines.specs.declared.names.Known.{Known}
 use Rattle.tm_lines.specs.declared.saying.Said.{Said}
 use Rattle.tm_lines.specs.declared.words.Words.{Words}
-use Rattle.tm_lines.specs.FirstWords.{first_word_of}
+use Rattle.tm_lines.specs.FirstWords.{first_word_of, has_count, operand_slots}
+use Rattle.tm_lines.specs.Found.{found_by, nothing_found}
 use Rattle.tm_lines.specs.KnownNames.{known_in, number_known}
 use Rattle.tm_lines.specs.LineFaults.{Place, is_beyond, opens}
 use Rattle.tm_lines.specs.Lines.{is_ignored, is_printed, words_of}
@@ -38,3 +42,8 @@ pub record IsReadBy (lines : List (List ℕ)) (line : List ℕ) (words : Words) 
 pub record HasRoom (p : Place) (f : FirstWord) : Type 0 where
   pub blocks : (opens f && nat_le MOST_BLOCKS (length p.blocks)) ≡ false
   pub others : is_beyond p f ≡ false
+
+-- A call of these words has as many as the operation needs, and those after the name break nothing.
+pub record HasSoundOperands (p : Place) (c : Opcode) (k : Option Kind) (ws : List (List ℕ)) : Type 0 where
+  pub count : has_count (Calls c) (length ws) ≡ true
+  pub operands : found_by p (Calls c) k (operand_slots c) (drop 2 ws) ≡ nothing_found

@@ -73,17 +73,19 @@ impl<'a> Checker<'a> {
     }
 
     /// Looks at the next line.
+    #[inline]
     pub fn next_line(&mut self) -> Line<'a>
         requires { is_empty self.old.rest ≡ false }
         ensures { Follows self.old result self.new }
     {
         match plain_line(self.rest) {
             None => self.next_any_line(),
-            Some((words, rest)) => self.next_plain_line(&words, rest),
+            Some((words, rest)) => self.next_plain_line(words, rest),
         }
     }
 
     /// Looks at the next line, of whatever form.
+    #[inline(never)]
     fn next_any_line(&mut self) -> Line<'a>
         requires { is_empty self.old.rest ≡ false }
         ensures { Follows self.old result self.new }
@@ -96,8 +98,9 @@ impl<'a> Checker<'a> {
     }
 
     /// Looks at the next line, which is plain, and has these words and this rest behind it.
-    fn next_plain_line(&mut self, words: &Words<'a>, rest: &'a [u8]) -> Line<'a>
-        requires { IsPlainLine self.old.rest words.now rest.now }
+    #[inline]
+    fn next_plain_line(&mut self, words: Words<'a>, rest: &'a [u8]) -> Line<'a>
+        requires { IsPlainLine self.old.rest words rest.now }
         ensures { Follows self.old result self.new }
     {
         let number = self.number;
@@ -111,6 +114,7 @@ impl<'a> Checker<'a> {
     }
 
     /// What is known of the name. Lines in a row often name one object, so the last name isn't looked up again.
+    #[inline]
     fn known(&mut self, name: &'a [u8]) -> Option<Known>
         ensures known { result ≡ known_in (text_lines self.old.text) name.now }
         ensures same { self.new ≡ self.old }

@@ -1,6 +1,5 @@
-ghost use Rattle.std.specs.Prelude.{◌≡◌, ℕ, ◌&&◌, false, drop, length, nat_le, List, Some, None, option_map, IfNone, MatchResult};
+ghost use Rattle.std.specs.Prelude.{◌≡◌, ℕ, ◌&&◌, false, true, drop, length, nat_le, List, Some, None, option_map, IfNone, MatchResult};
 ghost use Rattle.std.specs.List.{find};
-ghost use Rattle.tm_lines.specs.declared.first_words.FirstWord.TheVariants.{Calls};
 ghost use Rattle.tm_lines.specs.FirstWords.{first_word_of, slots_of};
 ghost use Rattle.tm_lines.specs.Found.{applies_by, block_fault, found_by, name_fault};
 ghost use Rattle.tm_lines.specs.KnownNames.{known_in, number_known};
@@ -9,16 +8,16 @@ ghost use Rattle.tm_lines.specs.Lines.{words_of};
 ghost use Rattle.tm_lines.specs.NamedLines.{word_at};
 ghost use Rattle.tm_lines.specs.TextFaults.{named_in, text_lines};
 ghost use Rattle.tm_lines.specs.Checks.{IsLine};
-ghost use Rattle.tm_lines.specs.Saying.{AreFirst, HasRoom, IsReadBy};
+ghost use Rattle.tm_lines.specs.Saying.{AreFirst, HasRoom, HasSoundOperands, IsReadBy};
 
 use crate::faults::{Fault, FaultyLine};
-use crate::first_words::{FirstWord, Slot, operand_slot};
+use crate::first_words::{FirstWord, operand_slot};
 use crate::found::Found;
 use crate::lines::is_printed;
 use crate::names::{Known, Names};
 use crate::places::Place;
 use crate::saying::{Line, Said};
-use crate::slots::found_in;
+use crate::slots::{found_in, is_of_another_kind};
 use crate::words::Words;
 use tm_base::{Kind, Opcode};
 
@@ -30,7 +29,7 @@ pub fn fault_of_line(names: &Names, place: &Place, line: &[u8]) -> Option<Fault>
         return Some(Fault::Byte);
     }
     let words = Words::of_line(line);
-    match judge(place, names.known(words.second), &words) {
+    match judge(place, names.known(words.second), words) {
         Ok(_) => None,
         Err(fault) => Some(fault),
     }
@@ -51,18 +50,19 @@ impl<'a> Place<'a> {
                 kind: Fault::Byte,
             });
         }
-        self.take_words(names.known(words.second), number, &words)
+        self.take_words(names.known(words.second), number, words)
     }
 
     /// The same by the words of a line that isn't ignored, and whose bytes all print. This is known of the name that
     /// its second word may be.
+    #[inline]
     pub(crate) fn take_words(
         &mut self,
         known: Option<Known>,
         number: u64,
-        words: &Words<'a>,
+        words: Words<'a>,
     ) -> Line<'a>
-        ensures { (lines : List (List ℕ)) (line : List ℕ) → IsReadBy lines line words.now known
+        ensures { (lines : List (List ℕ)) (line : List ℕ) → IsReadBy lines line words.entry known
             → IsLine lines number self.old line result self.new }
     {
         match judge(self, known, words) {
@@ -70,7 +70,7 @@ impl<'a> Place<'a> {
                 self.go_on(first, words.second);
                 Line::Said(Said {
                     first,
-                    words: *words,
+                    words,
                     object: number_of(known),
                 })
             }
@@ -81,8 +81,9 @@ impl<'a> Place<'a> {
 
 /// The first word of a line with these words, or what is wrong with them, where this is known of the name that the
 /// second word may be.
-fn judge(place: &Place, known: Option<Known>, words: &Words) -> Result<FirstWord, Fault>
-    ensures said { (ws : List (List ℕ)) → AreFirst words.now ws → MatchResult result
+#[inline]
+fn judge(place: &Place, known: Option<Known>, words: Words) -> Result<FirstWord, Fault>
+    ensures said { (ws : List (List ℕ)) → AreFirst words.entry ws → MatchResult result
         (λ first. (fault_of_words place.now (option_map (λ known. known.kind) known) ws
         (first_word_of (word_at 0 ws)) ≡ None)
         × (first_word_of (word_at 0 ws) ≡ Some first))
@@ -117,19 +118,71 @@ fn number_of(known: Option<Known>) -> u32
 }
 
 /// What is wrong with these words of a line that begins with this first word, where the object that it names has
-/// this kind.
+/// this kind. Most lines are calls without a fault, which a few tests show.
+#[inline]
 fn fault_of_words(
     place: &Place,
     first: FirstWord,
     kind: Option<Kind>,
-    words: &Words,
+    words: Words,
 ) -> Option<Fault>
-    ensures fault { (ws : List (List ℕ)) → AreFirst words.now ws
+    ensures fault { (ws : List (List ℕ)) → AreFirst words.entry ws
         → result ≡ fault_of_words place.now kind ws (Some first) }
     ensures room { IfNone result (HasRoom place.now first) }
 {
-    let found = found_by(place, first, kind, words);
+    if is_sound_call(place, first, kind, &words) {
+        return None;
+    }
+    fault_of_any_words(place, first, kind, words)
+}
+
+/// The same by a search for every kind of fault.
+#[inline(never)]
+fn fault_of_any_words(
+    place: &Place,
+    first: FirstWord,
+    kind: Option<Kind>,
+    words: Words,
+) -> Option<Fault>
+    ensures fault { (ws : List (List ℕ)) → AreFirst words.entry ws
+        → result ≡ fault_of_words place.now kind ws (Some first) }
+    ensures room { IfNone result (HasRoom place.now first) }
+{
+    let found = found_by(place, first, kind, &words);
     fault_found(place, first, found, words.count)
+}
+
+/// Whether these words are a call without a fault, where the object that they name has this kind.
+#[inline]
+fn is_sound_call(place: &Place, first: FirstWord, kind: Option<Kind>, words: &Words) -> bool
+    ensures fault { result ≡ true → (ws : List (List ℕ)) → AreFirst words.now ws
+        → fault_of_words place.now kind ws (Some first) ≡ None }
+    ensures room { result ≡ true → HasRoom place.now first }
+{
+    let FirstWord::Calls(opcode) = first else {
+        return false;
+    };
+    place.is_inside()
+        && !place.is_beyond(first)
+        && kind.is_some()
+        && !is_of_another_kind(first, kind)
+        && has_sound_operands(place, opcode, kind, words)
+}
+
+/// Whether a call of the operation has as many words as it needs, and those after the name break nothing.
+#[inline]
+fn has_sound_operands(place: &Place, opcode: Opcode, kind: Option<Kind>, words: &Words) -> bool
+    ensures { result ≡ true → (ws : List (List ℕ)) → AreFirst words.now ws
+        → HasSoundOperands place.now opcode kind ws }
+{
+    match operand_slot(opcode) {
+        None => words.count == 2,
+        Some(slot) => {
+            words.count == 3
+                && found_in(place, FirstWord::Calls(opcode), kind, slot, words.third)
+                    == Found::NOTHING
+        }
+    }
 }
 
 /// The first kind of fault that applies to so many words in which these were found.
@@ -186,37 +239,6 @@ fn block_fault(place: &Place, first: FirstWord) -> Option<Fault>
 
 /// What the words after this first word break in its slots.
 fn found_by(place: &Place, first: FirstWord, kind: Option<Kind>, words: &Words) -> Found
-    ensures { (ws : List (List ℕ)) → AreFirst words.now ws
-        → result ≡ found_by place.now first kind (slots_of first) (drop 1 ws) }
-{
-    match first {
-        FirstWord::Calls(opcode) => found_in_call(place, opcode, kind, words),
-        _ => found_in_slots(place, first, kind, words),
-    }
-}
-
-/// What the words of a call break. Most lines call, and each call has a name and one operand at most, so that no
-/// slots are gone over.
-fn found_in_call(place: &Place, opcode: Opcode, kind: Option<Kind>, words: &Words) -> Found
-    ensures { (ws : List (List ℕ)) → AreFirst words.now ws
-        → result ≡ found_by place.now (Calls opcode) kind (slots_of (Calls opcode)) (drop 1 ws) }
-{
-    if words.count <= 1 {
-        return Found::NOTHING;
-    }
-    let first = FirstWord::Calls(opcode);
-    let name = found_in(place, first, kind, Slot::KnownName, words.second);
-    if words.count <= 2 {
-        return name;
-    }
-    match operand_slot(opcode) {
-        None => name,
-        Some(slot) => name.or(found_in(place, first, kind, slot, words.third)),
-    }
-}
-
-/// What the words after any first word break in its slots.
-fn found_in_slots(place: &Place, first: FirstWord, kind: Option<Kind>, words: &Words) -> Found
     ensures { (ws : List (List ℕ)) → AreFirst words.now ws
         → result ≡ found_by place.now first kind (slots_of first) (drop 1 ws) }
 {

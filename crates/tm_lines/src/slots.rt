@@ -65,7 +65,7 @@ fn conditions_of(kind: Option<Kind>) -> i64
 }
 
 /// Whether the first word calls an operation that the kind doesn't have.
-fn is_of_another_kind(first: FirstWord, kind: Option<Kind>) -> bool
+pub(crate) fn is_of_another_kind(first: FirstWord, kind: Option<Kind>) -> bool
     ensures { result ≡ is_of_another_kind first kind }
 {
     match first {

@@ -1,7 +1,7 @@
-use Rattle.std.proofs.Common.{◌≡◌, ◌<◌, ◌∷◌, [], true, length, sym, ap, ◌∙◌, arith}
+use Rattle.std.proofs.Common.{◌≡◌, ◌<◌, ◌∷◌, [], true, length, sym, ◌∙◌, arith}
 use Rattle.std.proofs.lemmas.Bool.Decides.{nat_tests}
 use Rattle.std.proofs.lemmas.List.Sums.{prefix_len-le-length}
-use Rattle.tm_lines.specs.PlainLines.{CutsWords, ends_word, is_plain}
+use Rattle.tm_lines.specs.PlainLines.{ends_word, is_plain}
 use Rattle.tm_lines.proofs.PlainLinesLemmas.{cuts-then, word-cut}
 use Rattle.tm_lines.proofs.plain_lines.plain_word.Goals as goal
 

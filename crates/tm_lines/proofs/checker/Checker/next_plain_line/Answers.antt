@@ -8,7 +8,7 @@ pub returns : goal.returns
 returns c =
     let a = c.self.inside in
     let b = c.self-2.inside in
-    let words = c.args.words.now in
+    let words = c.args.words in
     let old : Check = record { text = a.names; number = a.number; place = a.place; rest = a.rest.now } in
     let middle : Check = record { text = b.names; number = b.number; place = b.place; rest = b.rest.now } in
     let new : Check = record { text = b.names; number = b.number; place = c.take_words.new.self; rest = b.rest.now } in

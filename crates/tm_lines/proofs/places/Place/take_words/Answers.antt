@@ -6,7 +6,7 @@ use Rattle.tm_lines.proofs.places.Place.take_words.Goals as goal
 
 pub returns-in-Ok : goal.returns-in-Ok
 returns-in-Ok c = λ lines line by.
-    let words = c.args.words.now in
+    let words = c.args.words in
     let known = c.args.known in
     let p = c.args.self.now in
     let said = c.in-Ok.ensures.said (words_of line) by.first in (
@@ -19,6 +19,6 @@ returns-in-Ok c = λ lines line by.
 pub returns-in-Err : goal.returns-in-Err
 returns-in-Err c = λ lines line by. (
   by.said,
-  fault_of_line-read lines line c.args.words.now c.args.known c.args.self.now (Some c.in-Err.kind) by (c.in-Err.ensures.said (words_of line) by.first),
+  fault_of_line-read lines line c.args.words c.args.known c.args.self.now (Some c.in-Err.kind) by (c.in-Err.ensures.said (words_of line) by.first),
   refl,
 )

@@ -2,7 +2,7 @@ use Rattle.std.proofs.Common.{◌≡◌, ◌<◌, ◌≤◌, ◌+◌, ◌∷◌,
 use Rattle.std.proofs.lemmas.List.{drop_all}
 use Rattle.tm_lines.specs.Found.{found_by, or_found}
 use Rattle.tm_lines.proofs.WordsLemmas.{drop-first, found_by-more, found_by-no_words, or_found-nothing, slots_of-few}
-use Rattle.tm_lines.proofs.line_faults.found_in_slots.Goals as goal
+use Rattle.tm_lines.proofs.line_faults.found_by.Goals as goal
 
 pub returns-then-words-i : goal.returns-then-words-i
 returns-then-words-i c = λ ws are.

@@ -1,7 +1,7 @@
 use Rattle.std.proofs.Common.{◌≡◌, ℕ, ◌+◌, List, drop}
 use Rattle.tm_lines.specs.Found.{found_by, or_found}
 use Rattle.tm_lines.specs.Saying.{AreFirst}
-use Rattle.tm_lines.proofs.line_faults.found_in_slots.Given as goal
+use Rattle.tm_lines.proofs.line_faults.found_by.Given as goal
 
 abbrev pub invariant-loop-i : goal.invariant-loop-i
 invariant-loop-i l =
