@@ -73,7 +73,7 @@ impl<'a> Checker<'a> {
     }
 
     /// Looks at the next line.
-    #[inline]
+    #[inline(always)]
     pub fn next_line(&mut self) -> Line<'a>
         requires { is_empty self.old.rest ≡ false }
         ensures { Follows self.old result self.new }
@@ -98,7 +98,7 @@ impl<'a> Checker<'a> {
     }
 
     /// Looks at the next line, which is plain, and has these words and this rest behind it.
-    #[inline]
+    #[inline(always)]
     fn next_plain_line(&mut self, words: Words<'a>, rest: &'a [u8]) -> Line<'a>
         requires { IsPlainLine self.old.rest words rest.now }
         ensures { Follows self.old result self.new }
@@ -114,7 +114,7 @@ impl<'a> Checker<'a> {
     }
 
     /// What is known of the name. Lines in a row often name one object, so the last name isn't looked up again.
-    #[inline]
+    #[inline(always)]
     fn known(&mut self, name: &'a [u8]) -> Option<Known>
         ensures known { result ≡ known_in (text_lines self.old.text) name.now }
         ensures same { self.new ≡ self.old }

@@ -55,7 +55,7 @@ impl<'a> Place<'a> {
 
     /// The same by the words of a line that isn't ignored, and whose bytes all print. This is known of the name that
     /// its second word may be.
-    #[inline]
+    #[inline(always)]
     pub(crate) fn take_words(
         &mut self,
         known: Option<Known>,
@@ -81,7 +81,7 @@ impl<'a> Place<'a> {
 
 /// The first word of a line with these words, or what is wrong with them, where this is known of the name that the
 /// second word may be.
-#[inline]
+#[inline(always)]
 fn judge(place: &Place, known: Option<Known>, words: Words) -> Result<FirstWord, Fault>
     ensures said { (ws : List (List ℕ)) → AreFirst words.entry ws → MatchResult result
         (λ first. (fault_of_words place.now (option_map (λ known. known.kind) known) ws
@@ -119,7 +119,7 @@ fn number_of(known: Option<Known>) -> u32
 
 /// What is wrong with these words of a line that begins with this first word, where the object that it names has
 /// this kind. Most lines are calls without a fault, which a few tests show.
-#[inline]
+#[inline(always)]
 fn fault_of_words(
     place: &Place,
     first: FirstWord,
@@ -153,7 +153,7 @@ fn fault_of_any_words(
 }
 
 /// Whether these words are a call without a fault, where the object that they name has this kind.
-#[inline]
+#[inline(always)]
 fn is_sound_call(place: &Place, first: FirstWord, kind: Option<Kind>, words: &Words) -> bool
     ensures fault { result ≡ true → (ws : List (List ℕ)) → AreFirst words.now ws
         → fault_of_words place.now kind ws (Some first) ≡ None }
@@ -170,7 +170,7 @@ fn is_sound_call(place: &Place, first: FirstWord, kind: Option<Kind>, words: &Wo
 }
 
 /// Whether a call of the operation has as many words as it needs, and those after the name break nothing.
-#[inline]
+#[inline(always)]
 fn has_sound_operands(place: &Place, opcode: Opcode, kind: Option<Kind>, words: &Words) -> bool
     ensures { result ≡ true → (ws : List (List ℕ)) → AreFirst words.now ws
         → HasSoundOperands place.now opcode kind ws }

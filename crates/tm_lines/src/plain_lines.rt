@@ -10,7 +10,7 @@ use crate::words::Words;
 /// and each of its bytes prints or is a blank. `None` says nothing of the line.
 ///
 /// Nearly all lines are plain. One pass over their bytes cuts a line off, cuts its words and tests its bytes.
-#[inline]
+#[inline(always)]
 pub fn plain_line<'a>(bytes: &'a [u8]) -> Option<(Words<'a>, &'a [u8])>
     requires { 0 < length bytes.now }
     ensures { IfSome result (λ cut. IsPlainLine bytes.now cut.0 cut.1.now) }
@@ -56,7 +56,7 @@ pub fn plain_line<'a>(bytes: &'a [u8]) -> Option<(Words<'a>, &'a [u8])>
 
 /// The first word of the bytes, and the bytes after it and the blanks behind it. `None` where the bytes don't begin
 /// with a word, or it has a byte that doesn't print.
-#[inline]
+#[inline(always)]
 fn plain_word(bytes: &[u8]) -> Option<(&[u8], &[u8])>
     ensures { IfSome result (λ cut. CutsWords bytes.now (cut.0.now ∷ []) cut.1.now) }
 {

@@ -1,4 +1,5 @@
 ghost use Rattle.std.specs.Prelude.{◌≡◌, pos, List};
+ghost use Rattle.tm_programs.specs.declared.instructions.Instruction.TheVariants.{Call};
 ghost use Rattle.tm_lines.specs.declared.first_words.Slot.TheVariants.{Value};
 ghost use Rattle.tm_lines.specs.FirstWords.{operand_slots};
 ghost use Rattle.tm_lines.specs.NamedLines.{natural_or};
@@ -13,19 +14,39 @@ use tm_lines::{
 };
 use tm_programs::{Comparison, Instruction, Operand};
 
-/// The instruction that a line says.
+/// The instruction that a line says. Most lines call, so a call is made before all others are told apart.
+#[inline(always)]
 pub fn instruction(said: &Said) -> Instruction
     ensures { (ds : List Declaration) → NamesObject ds said.now said.now.first
         → result ≡ instruction_said ds said.now.first (words_after said.now.words) }
 {
-    let words = &said.words;
+    match said.first {
+        FirstWord::Calls(opcode) => call(said.object, opcode, said.words.third),
+        _ => any_instruction(*said),
+    }
+}
+
+/// The call of an operation on the object, by its third word.
+fn call(object: u32, opcode: Opcode, word: &[u8]) -> Instruction
+    ensures { result ≡ Call object opcode (operand_said (operand_slots opcode) word.now) }
+{
+    Instruction::Call {
+        object,
+        opcode,
+        operand: operand(opcode, word),
+    }
+}
+
+/// The instruction that any line says.
+#[inline(never)]
+fn any_instruction(said: Said) -> Instruction
+    ensures { (ds : List Declaration) → NamesObject ds said.entry said.entry.first
+        → result ≡ instruction_said ds said.entry.first (words_after said.entry.words) }
+{
+    let words = said.words;
     match said.first {
         FirstWord::Declares(_) => Instruction::End,
-        FirstWord::Calls(opcode) => Instruction::Call {
-            object: said.object,
-            opcode,
-            operand: operand(opcode, words.third),
-        },
+        FirstWord::Calls(opcode) => call(said.object, opcode, words.third),
         FirstWord::Set => Instruction::Set {
             register: register_or(words.second),
             value: number_or(words.third),

@@ -54,18 +54,19 @@ impl Objects {
     {
         match declarator(first) {
             None => Ok(()),
-            Some(declarator) => self.add(declarator, words),
+            Some(declarator) => self.add(declarator, *words),
         }
     }
 
     /// Adds the object that a line of these words declares, if it has a name and there may be one more.
-    fn add(&mut self, declarator: Declarator, words: &Words) -> Result<(), NoMemory>
+    #[inline(never)]
+    fn add(&mut self, declarator: Declarator, words: Words) -> Result<(), NoMemory>
         ensures { OnOk result ((later : List Declaration)
-            → IsDeclarable (self.old.objects ++ object_by self.old.thread declarator words.now ∷ later)
-            → self.new ≡ with_object self.old (object_by self.old.thread declarator words.now)
+            → IsDeclarable (self.old.objects ++ object_by self.old.thread declarator words.entry ∷ later)
+            → self.new ≡ with_object self.old (object_by self.old.thread declarator words.entry)
             (next_thread self.old.thread declarator)) }
     {
-        let Some(declared) = declaration(self.thread, declarator, words) else {
+        let Some(declared) = declaration(self.thread, declarator, &words) else {
             return Ok(());
         };
         if MOST_OBJECTS <= self.declarations.len() {
