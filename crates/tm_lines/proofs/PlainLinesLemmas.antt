@@ -3,9 +3,9 @@ use Rattle.std.proofs.Common.{◌≡◌, ℕ, zero, suc, ◌<◌, Bool, true, fa
 use Rattle.std.specs.List.{list_all, prefix_len}
 use Rattle.std.proofs.lemmas.Bool.{cond_both, cond-true, cond-false}
 use Rattle.std.proofs.lemmas.Bool.Decides.{nat_tests}
-use Rattle.tm_lines.specs.declared.words.Words.{Words}
+use Rattle.tm_lines.specs.declared.plain_lines.CutLine.{CutLine}
 use Rattle.tm_lines.specs.Lines.{is_blank, is_printed, lines_of, put_first, put_word, without_cr, words_of}
-use Rattle.tm_lines.specs.PlainLines.{CutsWords, EndsLine, IsPlainLine, after_line, ends_word, is_plain, line_of}
+use Rattle.tm_lines.specs.PlainLines.{CutsWords, EndsLine, IsCutOff, after_line, ends_word, is_plain, line_of}
 use Rattle.tm_lines.specs.Saying.{AreFirst}
 use Rattle.tm_lines.specs.TextFaults.{text_lines}
 use Rattle.tm_lines.proofs.LinesLemmas.{goes_on}
@@ -123,20 +123,20 @@ without_cr-printed (b ∷ c ∷ line) h =
     ap (λ l. b ∷ l) (without_cr-printed (c ∷ line) (and_right (is_printed b) (list_all is_printed (c ∷ line)) h))
 
 -- words were cut off until the line's end
-pub plain_line-ends : (bytes : List ℕ) (ws : List (List ℕ)) (last rest : List ℕ) (words : Words) → 0 < length bytes → CutsWords bytes ws last → EndsLine last rest → AreFirst words (ws ++ []) → IsPlainLine bytes words rest
-plain_line-ends [] ws last rest words some cuts ends are = absurd (omega arith)
-plain_line-ends (b ∷ bs) ws last rest words some cuts ends are =
+pub plain_line-ends : (bytes : List ℕ) (ws : List (List ℕ)) (last : List ℕ) (cut : CutLine) → 0 < length bytes → CutsWords bytes ws last → EndsLine last cut.rest.now → cut.is_printed ≡ true → AreFirst cut.words (ws ++ []) → IsCutOff bytes cut
+plain_line-ends [] ws last cut some cuts ends whole are = absurd (omega arith)
+plain_line-ends (b ∷ bs) ws last cut some cuts ends whole are =
     let line = line_of (b ∷ bs) in
     let printed : list_all is_printed line ≡ true = cuts.printed ∙ ap (list_all is_printed) ends.line in
-    let cut : words_of line ≡ ws ++ [] = cuts.words ∙ ap (λ l. ws ++ words_of l) ends.line in
+    let words : words_of line ≡ ws ++ [] = cuts.words ∙ ap (λ l. ws ++ words_of l) ends.line in
     record {
       line = line;
       lines = ap (map without_cr) (lines_of-line b bs)
           ∙ ap (λ l. l ∷ text_lines (after_line (b ∷ bs))) (without_cr-printed line printed)
           ∙ ap (λ r. line ∷ text_lines r) (cuts.after ∙ ends.after);
       shorter = subst (λ r. length r < length (b ∷ bs)) (cuts.after ∙ ends.after) (after_line-shorter b bs);
-      printed = printed;
-      words = subst (AreFirst words) (sym cut) are;
+      printed = whole ∙ sym printed;
+      words = subst (AreFirst cut.words) (sym words) are;
     }
 
 -- the same of a word and a rest that are equal to the parts of the bytes

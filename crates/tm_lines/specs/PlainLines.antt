@@ -1,7 +1,7 @@
 -- How a line is cut off the start of bytes word by word.
 use Rattle.std.specs.Prelude.{◌≡◌, ◌<◌, ℕ, Bool, true, ◌&&◌, ◌||◌, ◌==◌, nat_le, if◌then◌else◌, List, [], ◌∷◌, ◌++◌, length}
 use Rattle.std.specs.List.{list_all}
-use Rattle.tm_lines.specs.declared.words.Words.{Words}
+use Rattle.tm_lines.specs.declared.plain_lines.CutLine.{CutLine}
 use Rattle.tm_lines.specs.Lines.{is_blank, is_printed, words_of}
 use Rattle.tm_lines.specs.Saying.{AreFirst}
 use Rattle.tm_lines.specs.TextFaults.{text_lines}
@@ -37,10 +37,10 @@ pub record EndsLine (bytes rest : List ℕ) : Type 0 where
   pub line : line_of bytes ≡ []
   pub after : after_line bytes ≡ rest
 
--- The first line of the bytes has words that begin so and no byte that doesn't print, and behind it is the rest.
-pub record IsPlainLine (bytes : List ℕ) (cut : Words) (rest : List ℕ) : Type 0 where
+-- The line was cut off the start of the bytes.
+pub record IsCutOff (bytes : List ℕ) (cut : CutLine) : Type 0 where
   pub line : List ℕ
-  pub lines : text_lines bytes ≡ line ∷ text_lines rest
-  pub shorter : length rest < length bytes
-  pub printed : list_all is_printed line ≡ true
-  pub words : AreFirst cut (words_of line)
+  pub lines : text_lines bytes ≡ line ∷ text_lines cut.rest.now
+  pub shorter : length cut.rest.now < length bytes
+  pub printed : cut.is_printed ≡ list_all is_printed line
+  pub words : AreFirst cut.words (words_of line)

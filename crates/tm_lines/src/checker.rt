@@ -1,17 +1,14 @@
 ghost use Rattle.std.specs.Prelude.{◌≡◌, ◌≤◌, false, true, length, IfOk};
 ghost use Rattle.tm_lines.specs.Checks.{Follows, before, fault_left, is_empty};
 ghost use Rattle.tm_lines.specs.KnownNames.{known_in};
-ghost use Rattle.tm_lines.specs.PlainLines.{IsPlainLine};
 ghost use Rattle.tm_lines.specs.TextFaults.{first_fault, text_lines};
 
 use crate::faults::{Fault, FaultyLine};
 use crate::limits::MOST_BYTES;
-use crate::lines::{first_line, without_cr};
 use crate::names::{Known, Names};
 use crate::places::Place;
-use crate::plain_lines::plain_line;
+use crate::plain_lines::cut_line;
 use crate::saying::Line;
-use crate::words::Words;
 use std::alloc::Global;
 use std::marker::Model;
 use tm_base::NoMemory;
@@ -78,39 +75,21 @@ impl<'a> Checker<'a> {
         requires { is_empty self.old.rest ≡ false }
         ensures { Follows self.old result self.new }
     {
-        match plain_line(self.rest) {
-            None => self.next_any_line(),
-            Some((words, rest)) => self.next_plain_line(words, rest),
-        }
-    }
-
-    /// Looks at the next line, of whatever form.
-    #[inline(never)]
-    fn next_any_line(&mut self) -> Line<'a>
-        requires { is_empty self.old.rest ≡ false }
-        ensures { Follows self.old result self.new }
-    {
-        let (line, rest) = first_line(self.rest);
+        let cut = cut_line(self.rest);
         let number = self.number;
-        self.rest = rest;
+        self.rest = cut.rest;
         self.number += 1;
-        self.place.take(&self.names, number, without_cr(line))
-    }
-
-    /// Looks at the next line, which is plain, and has these words and this rest behind it.
-    #[inline(always)]
-    fn next_plain_line(&mut self, words: Words<'a>, rest: &'a [u8]) -> Line<'a>
-        requires { IsPlainLine self.old.rest words rest.now }
-        ensures { Follows self.old result self.new }
-    {
-        let number = self.number;
-        self.rest = rest;
-        self.number += 1;
-        if words.are_ignored() {
+        if cut.words.are_ignored() {
             return Line::Ignored;
         }
-        let known = self.known(words.second);
-        self.place.take_words(known, number, words)
+        if !cut.is_printed {
+            return Line::Faulty(FaultyLine {
+                line: number,
+                kind: Fault::Byte,
+            });
+        }
+        let known = self.known(cut.words.second);
+        self.place.take_words(known, number, cut.words)
     }
 
     /// What is known of the name. Lines in a row often name one object, so the last name isn't looked up again.

@@ -1,4 +1,4 @@
-ghost use Rattle.std.specs.Prelude.{◌≡◌, ◌∷◌};
+ghost use Rattle.std.specs.Prelude.{◌≡◌, [], ◌∷◌};
 ghost use Rattle.std.specs.List.{find, list_any};
 ghost use Rattle.std.specs.Option.{option_to_list};
 ghost use Rattle.std.specs.Str.{bytes_eq};
@@ -68,8 +68,30 @@ const ANY_NUMBER: Slot = Slot::Number {
 };
 
 impl FirstWord {
-    /// The first word that is spelled so.
+    /// The first word that is spelled so. Where lines are short, most begin with a word of one byte.
+    #[inline(always)]
     pub fn of_word(word: &[u8]) -> Option<FirstWord>
+        ensures { result ≡ first_word_of word.now }
+    {
+        match word {
+            [byte] => FirstWord::of_byte(*byte),
+            _ => FirstWord::of_any_word(word),
+        }
+    }
+
+    /// The first word that is this byte alone.
+    fn of_byte(byte: u8) -> Option<FirstWord>
+        ensures { result ≡ first_word_of (byte ∷ []) }
+    {
+        match byte {
+            b'p' => Some(FirstWord::Calls(Opcode::P)),
+            b'v' => Some(FirstWord::Calls(Opcode::V)),
+            _ => None,
+        }
+    }
+
+    /// The first word of any length that is spelled so.
+    fn of_any_word(word: &[u8]) -> Option<FirstWord>
         ensures { result ≡ first_word_of word.now }
     {
         match Declarator::of_word(word) {

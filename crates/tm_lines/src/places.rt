@@ -99,8 +99,22 @@ impl<'a> Place<'a> {
         }
     }
 
-    /// Goes on to the place after a line with this first word and this second one.
+    /// Goes on to the place after a line with this first word and this second one. Most lines call.
+    #[inline(always)]
     pub fn go_on(&mut self, first: FirstWord, second: &'a [u8])
+        requires shallow { (opens first && nat_le MOST_BLOCKS (length self.old.blocks)) ≡ false }
+        requires within { is_beyond self.old first ≡ false }
+        ensures { self.new ≡ place_after self.old first second.now }
+    {
+        match first {
+            FirstWord::Calls(_) => self.call(),
+            _ => self.go_on_after_any(first, second),
+        }
+    }
+
+    /// The same after any line.
+    #[inline(never)]
+    fn go_on_after_any(&mut self, first: FirstWord, second: &'a [u8])
         requires shallow { (opens first && nat_le MOST_BLOCKS (length self.old.blocks)) ≡ false }
         requires within { is_beyond self.old first ≡ false }
         ensures { self.new ≡ place_after self.old first second.now }

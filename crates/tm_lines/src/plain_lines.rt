@@ -1,19 +1,59 @@
-ghost use Rattle.std.specs.Prelude.{◌≡◌, ◌<◌, [], ◌∷◌, length, IfSome};
+ghost use Rattle.std.specs.Prelude.{◌≡◌, ◌<◌, true, [], ◌∷◌, length, IfSome};
 ghost use Rattle.std.specs.List.{prefix_len};
 ghost use Rattle.tm_lines.specs.Lines.{is_blank};
-ghost use Rattle.tm_lines.specs.PlainLines.{CutsWords, EndsLine, IsPlainLine, ends_word, is_plain};
+ghost use Rattle.tm_lines.specs.PlainLines.{CutsWords, EndsLine, IsCutOff, ends_word, is_plain};
 
-use crate::lines::blank_len;
+use crate::lines::{blank_len, first_line, is_printed, without_cr};
 use crate::words::Words;
 
-/// The words of the bytes' first line, and the bytes after it, where the line is plain: it has three words at most,
-/// and each of its bytes prints or is a blank. `None` says nothing of the line.
+/// The first line of some bytes: its words, whether each of its bytes prints or is a tab, and the bytes after it.
+#[derive(Clone, Copy, Debug)]
+pub struct CutLine<'a> {
+    pub words: Words<'a>,
+    pub is_printed: bool,
+    pub rest: &'a [u8],
+}
+
+/// The first line of the bytes.
 ///
 /// Nearly all lines are plain. One pass over their bytes cuts a line off, cuts its words and tests its bytes.
 #[inline(always)]
-pub fn plain_line<'a>(bytes: &'a [u8]) -> Option<(Words<'a>, &'a [u8])>
+pub fn cut_line(bytes: &[u8]) -> CutLine<'_>
     requires { 0 < length bytes.now }
-    ensures { IfSome result (λ cut. IsPlainLine bytes.now cut.0 cut.1.now) }
+    ensures { IsCutOff bytes.now result }
+{
+    match plain_line(bytes) {
+        None => any_line(bytes),
+        Some((words, rest)) => CutLine {
+            words,
+            is_printed: true,
+            rest,
+        },
+    }
+}
+
+/// The first line of the bytes, of whatever form.
+#[inline(never)]
+fn any_line(bytes: &[u8]) -> CutLine<'_>
+    requires { 0 < length bytes.now }
+    ensures { IsCutOff bytes.now result }
+{
+    let (line, rest) = first_line(bytes);
+    let line = without_cr(line);
+    CutLine {
+        words: Words::of_line(line),
+        is_printed: is_printed(line),
+        rest,
+    }
+}
+
+/// The words of the bytes' first line, and the bytes after it, where the line is plain: it has three words at most,
+/// and each of its bytes prints or is a tab. `None` says nothing of the line.
+#[inline(always)]
+fn plain_line<'a>(bytes: &'a [u8]) -> Option<(Words<'a>, &'a [u8])>
+    requires { 0 < length bytes.now }
+    ensures { IfSome result (λ plain.
+        IsCutOff bytes.now (record { words = plain.0; is_printed = true; rest = plain.1 })) }
 {
     let none = Words {
         first: b"",

@@ -27,6 +27,7 @@ pub fn instruction(said: &Said) -> Instruction
 }
 
 /// The call of an operation on the object, by its third word.
+#[inline(always)]
 fn call(object: u32, opcode: Opcode, word: &[u8]) -> Instruction
     ensures { result ≡ Call object opcode (operand_said (operand_slots opcode) word.now) }
 {
@@ -73,6 +74,7 @@ fn any_instruction(said: Said) -> Instruction
 }
 
 /// What a call of the operation has beside its object, by its third word.
+#[inline(always)]
 fn operand(opcode: Opcode, word: &[u8]) -> Operand
     ensures { result ≡ operand_said (operand_slots opcode) word.now }
 {

@@ -5,9 +5,9 @@ use Rattle.tm_lines.proofs.plain_lines.plain_line.Goals as goal
 
 pub returns-in-Some : goal.returns-in-Some
 returns-in-Some c =
-    plain_line-ends c.args.bytes.now [] c.after_blanks-rest.result.now c.in-Some.next.now _ c.requires
+    plain_line-ends c.args.bytes.now [] c.after_blanks-rest.result.now _ c.requires
     c.after_blanks-rest.ensures c.in-Some.ensures
-    (record { first = refl; second = refl; third = refl; fourth = refl; count = refl })
+    refl (record { first = refl; second = refl; third = refl; fourth = refl; count = refl })
 
 pub returns-in-Some-after_end : goal.returns-in-Some-after_end
 returns-in-Some-after_end c =
@@ -15,8 +15,8 @@ returns-in-Some-after_end c =
     let first = c.in_ok-first.first.now in
     let one : CutsWords bytes (first ∷ []) c.in_ok-first.rest.now =
     cuts-then bytes [] c.after_blanks-rest.result.now (first ∷ []) c.in_ok-first.rest.now c.after_blanks-rest.ensures c.in_ok-first.ensures in
-    plain_line-ends bytes (first ∷ []) c.in_ok-first.rest.now c.in-Some-after_end.next.now _ c.requires one c.in-Some-after_end.ensures
-    (record { first = refl; second = refl; third = refl; fourth = refl; count = refl })
+    plain_line-ends bytes (first ∷ []) c.in_ok-first.rest.now _ c.requires one c.in-Some-after_end.ensures
+    refl (record { first = refl; second = refl; third = refl; fourth = refl; count = refl })
 
 pub returns-in-Some-after_end-2 : goal.returns-in-Some-after_end-2
 returns-in-Some-after_end-2 c =
@@ -27,8 +27,8 @@ returns-in-Some-after_end-2 c =
     cuts-then bytes [] c.after_blanks-rest.result.now (first ∷ []) c.in_ok-first.rest.now c.after_blanks-rest.ensures c.in_ok-first.ensures in
     let two : CutsWords bytes (first ∷ second ∷ []) c.in_ok-second.rest.now =
     cuts-then bytes (first ∷ []) c.in_ok-first.rest.now (second ∷ []) c.in_ok-second.rest.now one c.in_ok-second.ensures in
-    plain_line-ends bytes (first ∷ second ∷ []) c.in_ok-second.rest.now c.in-Some-after_end-2.next.now _ c.requires two c.in-Some-after_end-2.ensures
-    (record { first = refl; second = refl; third = refl; fourth = refl; count = refl })
+    plain_line-ends bytes (first ∷ second ∷ []) c.in_ok-second.rest.now _ c.requires two c.in-Some-after_end-2.ensures
+    refl (record { first = refl; second = refl; third = refl; fourth = refl; count = refl })
 
 pub returns : goal.returns
 returns c =
@@ -42,5 +42,5 @@ returns c =
     cuts-then bytes (first ∷ []) c.in_ok-first.rest.now (second ∷ []) c.in_ok-second.rest.now one c.in_ok-second.ensures in
     let three : CutsWords bytes (first ∷ second ∷ third ∷ []) c.in_ok-third.rest.now =
     cuts-then bytes (first ∷ second ∷ []) c.in_ok-second.rest.now (third ∷ []) c.in_ok-third.rest.now two c.in_ok-third.ensures in
-    plain_line-ends bytes (first ∷ second ∷ third ∷ []) c.in_ok-third.rest.now c.in_ok-next.next.now _ c.requires three c.in_ok-next.ensures
-    (record { first = refl; second = refl; third = refl; fourth = refl; count = refl })
+    plain_line-ends bytes (first ∷ second ∷ third ∷ []) c.in_ok-third.rest.now _ c.requires three c.in_ok-next.ensures
+    refl (record { first = refl; second = refl; third = refl; fourth = refl; count = refl })

@@ -1,5 +1,5 @@
 use Rattle.tm_lines.proofs.FirstWordsLemmas.{first_word_of-parts}
-use Rattle.tm_lines.proofs.first_words.FirstWord.of_word.Goals as goal
+use Rattle.tm_lines.proofs.first_words.FirstWord.of_any_word.Goals as goal
 
 pub returns-in-Some : goal.returns-in-Some
 returns-in-Some c = rw (first_word_of-parts c.args.word.now, ← c.in-Some.ensures)
