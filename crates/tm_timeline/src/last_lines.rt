@@ -1,7 +1,9 @@
-ghost use Rattle.std.specs.Prelude.{◌≡◌, ◌++◌, All, IfOk, OnOk};
-ghost use Rattle.tm_timeline.specs.Rows.{last_line_of, names_text, IsProgramThread};
+ghost use Rattle.std.specs.Prelude.{◌≡◌, ◌≤◌, ◌++◌, All, IfOk, OnOk, codes, length};
+ghost use Rattle.std.specs.Fmt.{decimal};
+ghost use Rattle.tm_timeline.specs.Rows.{last_line_of, names_text, thread_name, IsProgramThread};
 
-use crate::pieces::{push_number, push_spaced_thread};
+use crate::pieces::put_thread;
+use crate::row_texts::RowText;
 use crate::words::end_word;
 use std::alloc::Global;
 use tm_base::{Bytes, End, NoMemory};
@@ -22,13 +24,23 @@ pub fn last_line(
     let mut out = Vec::new(alloc);
     out.extend_from_slice(end_word(end))?;
     out.extend_from_slice(b" ")?;
-    push_number(alloc, &mut out, n)?;
+    push_number(&mut out, n)?;
     match end {
         End::Done => {}
         End::Stuck | End::Budget => push_names(&mut out, exercise, cut)?,
     }
     out.extend_from_slice(b"\n")?;
     Ok(Bytes::from_vec(out))
+}
+
+/// Appends the number in decimal.
+fn push_number(out: &mut Vec<u8>, number: u64) -> Result<(), NoMemory>
+    ensures { OnOk result (out.new.items ≡ out.old.items ++ decimal number) }
+{
+    let mut text = RowText::empty();
+    text.put_number(number);
+    out.extend_from_slice(text.as_slice())?;
+    Ok(())
 }
 
 /// Appends the threads' names, each after a space.
@@ -39,5 +51,18 @@ fn push_names(out: &mut Vec<u8>, exercise: &Exercise, threads: &[u32]) -> Result
     for thread in threads {
         push_spaced_thread(out, exercise, *thread)?;
     }
+    Ok(())
+}
+
+/// Appends the thread's name after a space.
+fn push_spaced_thread(out: &mut Vec<u8>, exercise: &Exercise, thread: u32) -> Result<(), NoMemory>
+    requires { thread ≤ length exercise.now.programs }
+    ensures { OnOk result
+        (out.new.items ≡ out.old.items ++ (codes " " ++ thread_name exercise.now thread)) }
+{
+    let mut text = RowText::empty();
+    put_thread(&mut text, exercise, thread);
+    text.put_byte(b' ');
+    out.extend_from_slice(text.as_slice())?;
     Ok(())
 }

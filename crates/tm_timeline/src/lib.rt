@@ -3,11 +3,12 @@
 
 mod last_lines;
 mod pieces;
+mod row_texts;
 mod rows;
 mod words;
 
 pub use last_lines::last_line;
-pub use rows::row;
+pub use rows::{append_row, row};
 
 #[cfg(test)]
 mod tests;

@@ -1,113 +1,89 @@
-ghost use Rattle.std.specs.Prelude.{◌≡◌, ◌≤◌, ◌<◌, ◌++◌, OnOk, codes, length};
+ghost use Rattle.std.specs.Prelude.{◌≡◌, ◌≤◌, ◌<◌, ◌+◌, ◌++◌, codes, length};
 ghost use Rattle.std.specs.Fmt.{decimal, signed_decimal};
 ghost use Rattle.tm_text.specs.Exercises.{name_of};
 ghost use Rattle.tm_timeline.specs.Rows.{thread_name, operand_text, detail_text, NamesThread};
 
-use std::alloc::Global;
-use tm_base::{NoMemory, Op, Reply};
+use crate::row_texts::RowText;
+use tm_base::{Op, Reply};
 use tm_text::Exercise;
 
-/// Appends the number in decimal.
-pub fn push_number(alloc: Global, out: &mut Vec<u8>, number: u64) -> Result<(), NoMemory>
-    ensures { OnOk result (out.new.items ≡ out.old.items ++ decimal number) }
+/// Puts the object's name in front.
+pub fn put_object(text: &mut RowText, exercise: &Exercise, object: u32)
+    requires room { length text.old ≤ 240 }
+    requires known { object < length exercise.now.objects }
+    ensures text { text.new ≡ name_of exercise.now.objects object ++ text.old }
+    ensures len { length text.new ≤ length text.old + 16 }
 {
-    let digits = number.to_string(alloc)?;
-    out.extend_from_slice(digits.as_bytes())?;
-    Ok(())
+    text.put(exercise.name(object).bytes());
 }
 
-/// Appends the value in decimal, a minus sign in front of a negative one.
-pub fn push_value(alloc: Global, out: &mut Vec<u8>, value: i64) -> Result<(), NoMemory>
-    ensures { OnOk result (out.new.items ≡ out.old.items ++ signed_decimal value) }
-{
-    let digits = value.to_string(alloc)?;
-    out.extend_from_slice(digits.as_bytes())?;
-    Ok(())
-}
-
-/// Appends the object's name.
-pub fn push_object(out: &mut Vec<u8>, exercise: &Exercise, object: u32) -> Result<(), NoMemory>
-    requires { object < length exercise.now.objects }
-    ensures { OnOk result (out.new.items ≡ out.old.items ++ name_of exercise.now.objects object) }
-{
-    let name = exercise.name(object);
-    out.extend_from_slice(name.bytes())?;
-    Ok(())
-}
-
-/// Appends the thread's name.
-pub fn push_thread(out: &mut Vec<u8>, exercise: &Exercise, thread: u32) -> Result<(), NoMemory>
-    requires { thread ≤ length exercise.now.programs }
-    ensures { OnOk result (out.new.items ≡ out.old.items ++ thread_name exercise.now thread) }
+/// Puts the thread's name in front.
+pub fn put_thread(text: &mut RowText, exercise: &Exercise, thread: u32)
+    requires room { length text.old ≤ 240 }
+    requires known { thread ≤ length exercise.now.programs }
+    ensures text { text.new ≡ thread_name exercise.now thread ++ text.old }
+    ensures len { length text.new ≤ length text.old + 16 }
 {
     if thread == 0 {
-        out.extend_from_slice(b"main")?;
-        return Ok(());
+        text.put(b"main");
+        return;
     }
     let own = exercise.own(thread);
     // Every thread with a program has an object of its own.
     prove!(own < exercise.objects());
-    push_object(out, exercise, own)
+    put_object(text, exercise, own);
 }
 
-/// Appends the number in decimal after a space.
-fn push_spaced_number(alloc: Global, out: &mut Vec<u8>, number: u64) -> Result<(), NoMemory>
-    ensures { OnOk result (out.new.items ≡ out.old.items ++ (codes " " ++ decimal number)) }
+/// Puts a space and the number in front.
+fn put_spaced_number(text: &mut RowText, number: u64)
+    requires { length text.old ≤ 235 }
+    ensures text { text.new ≡ codes " " ++ decimal number ++ text.old }
+    ensures len { length text.new ≤ length text.old + 21 }
 {
-    out.extend_from_slice(b" ")?;
-    push_number(alloc, out, number)
+    text.put_number(number);
+    text.put_byte(b' ');
 }
 
-/// Appends the value in decimal after a space.
-fn push_spaced_value(alloc: Global, out: &mut Vec<u8>, value: i64) -> Result<(), NoMemory>
-    ensures { OnOk result (out.new.items ≡ out.old.items ++ (codes " " ++ signed_decimal value)) }
+/// Puts a space and the value in front.
+fn put_spaced_value(text: &mut RowText, value: i64)
+    requires { length text.old ≤ 235 }
+    ensures text { text.new ≡ codes " " ++ signed_decimal value ++ text.old }
+    ensures len { length text.new ≤ length text.old + 21 }
 {
-    out.extend_from_slice(b" ")?;
-    push_value(alloc, out, value)
+    text.put_value(value);
+    text.put_byte(b' ');
 }
 
-/// Appends the thread's name after a space.
-pub fn push_spaced_thread(
-    out: &mut Vec<u8>,
-    exercise: &Exercise,
-    thread: u32,
-) -> Result<(), NoMemory>
-    requires { thread ≤ length exercise.now.programs }
-    ensures { OnOk result
-        (out.new.items ≡ out.old.items ++ (codes " " ++ thread_name exercise.now thread)) }
-{
-    out.extend_from_slice(b" ")?;
-    push_thread(out, exercise, thread)
-}
-
-/// Appends the operation's operand, where it has one.
-pub fn push_operand(alloc: Global, out: &mut Vec<u8>, op: Op) -> Result<(), NoMemory>
-    ensures { OnOk result (out.new.items ≡ out.old.items ++ operand_text op) }
+/// Puts the operation's operand in front, where it has one.
+pub fn put_operand(text: &mut RowText, op: Op)
+    requires { length text.old ≤ 235 }
+    ensures text { text.new ≡ operand_text op ++ text.old }
+    ensures len { length text.new ≤ length text.old + 21 }
 {
     match op {
-        Op::Wait(condition) => push_spaced_number(alloc, out, u64::from(condition)),
-        Op::Signal(condition) => push_spaced_number(alloc, out, u64::from(condition)),
-        Op::Broadcast(condition) => push_spaced_number(alloc, out, u64::from(condition)),
-        Op::Send(value) => push_spaced_value(alloc, out, value),
-        Op::Write(value) => push_spaced_value(alloc, out, value),
-        Op::Add(value) => push_spaced_value(alloc, out, value),
-        _ => Ok(()),
+        Op::Wait(condition) => put_spaced_number(text, u64::from(condition)),
+        Op::Signal(condition) => put_spaced_number(text, u64::from(condition)),
+        Op::Broadcast(condition) => put_spaced_number(text, u64::from(condition)),
+        Op::Send(value) => put_spaced_value(text, value),
+        Op::Write(value) => put_spaced_value(text, value),
+        Op::Add(value) => put_spaced_value(text, value),
+        _ => {}
     }
 }
 
-/// Appends what the reply names or brings, where it does.
-pub fn push_detail(
-    alloc: Global,
-    out: &mut Vec<u8>,
-    exercise: &Exercise,
-    reply: Reply,
-) -> Result<(), NoMemory>
-    requires { NamesThread exercise.now reply }
-    ensures { OnOk result (out.new.items ≡ out.old.items ++ detail_text exercise.now reply) }
+/// Puts what the reply names or brings in front, where it does.
+pub fn put_detail(text: &mut RowText, exercise: &Exercise, reply: Reply)
+    requires room { length text.old ≤ 235 }
+    requires named { NamesThread exercise.now reply }
+    ensures text { text.new ≡ detail_text exercise.now reply ++ text.old }
+    ensures len { length text.new ≤ length text.old + 21 }
 {
     match reply {
-        Reply::Gave(thread) => push_spaced_thread(out, exercise, thread),
-        Reply::Got(value) => push_spaced_value(alloc, out, value),
-        _ => Ok(()),
+        Reply::Gave(thread) => {
+            put_thread(text, exercise, thread);
+            text.put_byte(b' ');
+        }
+        Reply::Got(value) => put_spaced_value(text, value),
+        _ => {}
     }
 }

@@ -1,8 +1,9 @@
-ghost use Rattle.std.specs.Prelude.{◌≡◌, ◌≤◌, ◌<◌, ◌++◌, IfOk, OnOk, flat_map, length};
+ghost use Rattle.std.specs.Prelude.{◌≡◌, ◌≤◌, ◌<◌, ◌+◌, ◌++◌, IfOk, OnErr, OnOk, flat_map, length, vec_capacity, vec_len};
 ghost use Rattle.tm_timeline.specs.Words.{bar_letter};
 ghost use Rattle.tm_timeline.specs.Rows.{event_text, places_text, row_of, NamesThread};
 
-use crate::pieces::{push_detail, push_number, push_object, push_operand, push_thread};
+use crate::pieces::{put_detail, put_object, put_operand, put_thread};
+use crate::row_texts::RowText;
 use crate::words::{bar_letter, reply_word};
 use std::alloc::Global;
 use tm_base::{Bar, Bytes, Entry, NoMemory};
@@ -24,64 +25,101 @@ pub fn row(
     ensures { IfOk result (λ bytes. bytes ≡ row_of exercise.now n entry.now bars.now) }
 {
     let mut out = Vec::new(alloc);
-    push_number(alloc, &mut out, n)?;
-    out.extend_from_slice(b" ")?;
-    push_event(alloc, &mut out, exercise, entry)?;
-    out.extend_from_slice(b" [")?;
-    push_bars(&mut out, bars)?;
-    out.extend_from_slice(b"]\n")?;
+    append_row(&mut out, exercise, n, entry, bars)?;
     Ok(Bytes::from_vec(out))
 }
 
-/// Appends the text of an event.
-fn push_event(
-    alloc: Global,
+/// Appends the row of an event to the bytes. Only running out of memory refuses it, where there was no room
+/// for it, and leaves the bytes as they were.
+pub fn append_row(
     out: &mut Vec<u8>,
     exercise: &Exercise,
+    n: u64,
     entry: &Entry,
+    bars: &[Bar],
 ) -> Result<(), NoMemory>
     requires object { entry.now.object < length exercise.now.objects }
     requires thread { entry.now.thread ≤ length exercise.now.programs }
     requires granted { NamesThread exercise.now entry.now.reply }
-    ensures { OnOk result (out.new.items ≡ out.old.items ++ event_text exercise.now entry.now) }
+    requires bars { length bars.now ≡ length exercise.now.programs }
+    ensures appended { OnOk result (out.new.items ≡ out.old.items ++ row_of exercise.now n entry.now bars.now) }
+    ensures unchanged { OnErr result (out.new.items ≡ out.old.items) }
+    ensures full { OnErr result (vec_capacity out.old < vec_len out.old + length (row_of exercise.now n entry.now bars.now)) }
 {
-    push_number(alloc, out, entry.stamp)?;
-    out.extend_from_slice(b" ")?;
-    push_places(alloc, out, exercise, entry)?;
-    out.extend_from_slice(b" ")?;
-    out.extend_from_slice(entry.op.opcode().word())?;
-    push_operand(alloc, out, entry.op)?;
-    out.extend_from_slice(b" ")?;
-    out.extend_from_slice(reply_word(entry.reply))?;
-    push_detail(alloc, out, exercise, entry.reply)
+    let mut text = RowText::empty();
+    put_row(&mut text, exercise, n, entry, bars);
+    match out.extend_from_slice(text.as_slice()) {
+        Ok(()) => Ok(()),
+        Err(_) => Err(NoMemory),
+    }
 }
 
-/// Appends the thread and the object, each with the event's place in it.
-fn push_places(
-    alloc: Global,
-    out: &mut Vec<u8>,
-    exercise: &Exercise,
-    entry: &Entry,
-) -> Result<(), NoMemory>
+/// Puts the row of an event in front of no text.
+fn put_row(text: &mut RowText, exercise: &Exercise, n: u64, entry: &Entry, bars: &[Bar])
+    requires empty { length text.old ≡ 0 }
     requires object { entry.now.object < length exercise.now.objects }
     requires thread { entry.now.thread ≤ length exercise.now.programs }
-    ensures { OnOk result (out.new.items ≡ out.old.items ++ places_text exercise.now entry.now) }
+    requires granted { NamesThread exercise.now entry.now.reply }
+    requires bars { length bars.now ≡ length exercise.now.programs }
+    ensures { text.new ≡ row_of exercise.now n entry.now bars.now ++ text.old }
 {
-    push_thread(out, exercise, entry.thread)?;
-    out.extend_from_slice(b".")?;
-    push_number(alloc, out, entry.place)?;
-    out.extend_from_slice(b" ")?;
-    push_object(out, exercise, entry.object)?;
-    out.extend_from_slice(b".")?;
-    push_number(alloc, out, entry.at)
+    // No exercise has more threads than a row has room for.
+    prove!(bars.len() == exercise.threads() as usize);
+    text.put(b"]\n");
+    put_bars(text, bars);
+    text.put(b" [");
+    put_event(text, exercise, entry);
+    text.put_byte(b' ');
+    text.put_number(n);
 }
 
-/// Appends the letters of the bars.
-fn push_bars(out: &mut Vec<u8>, bars: &[Bar]) -> Result<(), NoMemory>
-    ensures { OnOk result (out.new.items ≡ out.old.items ++ flat_map bar_letter bars.now) }
+/// Puts the text of an event in front.
+fn put_event(text: &mut RowText, exercise: &Exercise, entry: &Entry)
+    requires room { length text.old ≤ 68 }
+    requires object { entry.now.object < length exercise.now.objects }
+    requires thread { entry.now.thread ≤ length exercise.now.programs }
+    requires granted { NamesThread exercise.now entry.now.reply }
+    ensures text { text.new ≡ event_text exercise.now entry.now ++ text.old }
+    ensures len { length text.new ≤ length text.old + 157 }
 {
-    for bar in bars {
-        out.extend_from_slice(bar_letter(*bar))?;
+    put_detail(text, exercise, entry.reply);
+    text.put(reply_word(entry.reply));
+    text.put_byte(b' ');
+    put_operand(text, entry.op);
+    text.put(entry.op.opcode().word());
+    text.put_byte(b' ');
+    put_places(text, exercise, entry);
+    text.put_byte(b' ');
+    text.put_number(entry.stamp);
+}
+
+/// Puts the thread and the object in front, each with the event's place in it.
+fn put_places(text: &mut RowText, exercise: &Exercise, entry: &Entry)
+    requires room { length text.old ≤ 129 }
+    requires object { entry.now.object < length exercise.now.objects }
+    requires thread { entry.now.thread ≤ length exercise.now.programs }
+    ensures text { text.new ≡ places_text exercise.now entry.now ++ text.old }
+    ensures len { length text.new ≤ length text.old + 75 }
+{
+    text.put_number(entry.at);
+    text.put_byte(b'.');
+    put_object(text, exercise, entry.object);
+    text.put_byte(b' ');
+    text.put_number(entry.place);
+    text.put_byte(b'.');
+    put_thread(text, exercise, entry.thread);
+}
+
+/// Puts the letters of the bars in front.
+fn put_bars(text: &mut RowText, bars: &[Bar])
+    requires room { length text.old ≤ 2 }
+    requires few { length bars.now ≤ 64 }
+    ensures text { text.new ≡ flat_map bar_letter bars.now ++ text.old }
+    ensures len { length text.new ≡ length text.old + length bars.now }
+{
+    let mut left = bars.len();
+    while left > 0 {
+        left -= 1;
+        text.put_byte(bar_letter(bars[left]));
     }
-    Ok(())
 }

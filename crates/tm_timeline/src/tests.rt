@@ -1,5 +1,5 @@
 use crate::words::reply_word;
-use crate::{last_line, row};
+use crate::{append_row, last_line, row};
 use std::process::Abort;
 use std::test::Fail;
 use tm_base::{Bar, End, Entry, Op, Reply};
@@ -69,6 +69,21 @@ fn a_row_prints_its_event_and_the_bars(rt: HostRuntime) -> Result<(), Fail> {
     let got = row(rt.alloc(), &exercise, 100, &GOT, &[Bar::Ended, Bar::Runs])?;
     let text = b"100 0 B.18446744073709551615 m.10 recv got -9223372036854775808 [ER]\n";
     assert_eq!(rt; got.as_slice(), text.as_slice());
+    Ok(())
+}
+
+#[test]
+fn a_row_is_appended_to_the_bytes_that_are_there(rt: HostRuntime) -> Result<(), Fail> {
+    let exercise = read(rt.alloc(), TEXT.as_bytes())?;
+    assert_eq!(rt; exercise.objects(), 3);
+    assert_eq!(rt; exercise.threads(), 2);
+    let mut out = Vec::from_slice(rt.alloc(), b"rows:\n")?;
+    let bars = [Bar::Runs, Bar::Granted];
+    append_row(&mut out, &exercise, 5, &UNLOCK, &bars)?;
+    append_row(&mut out, &exercise, 6, &GOT, &bars)?;
+    let text =
+        b"rows:\n5 4 A.3 m.3 unlock gave B [RG]\n6 0 B.18446744073709551615 m.10 recv got -9223372036854775808 [RG]\n";
+    assert_eq!(rt; out.as_slice(), text.as_slice());
     Ok(())
 }
 

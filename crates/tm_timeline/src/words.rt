@@ -1,11 +1,12 @@
-ghost use Rattle.std.specs.Prelude.{◌≡◌};
+ghost use Rattle.std.specs.Prelude.{◌≡◌, ◌≤◌, ◌∷◌, [], length};
 ghost use Rattle.tm_timeline.specs.Words.{reply_word, bar_letter, end_word};
 
 use tm_base::{Bar, End, Reply};
 
 /// The reply's word.
 pub fn reply_word(reply: Reply) -> &'static [u8]
-    ensures { result.now ≡ reply_word reply }
+    ensures word { result.now ≡ reply_word reply }
+    ensures short { length result.now ≤ 8 }
 {
     match reply {
         Reply::Ok => b"ok",
@@ -27,15 +28,15 @@ pub fn reply_word(reply: Reply) -> &'static [u8]
 }
 
 /// The letter of a thread's bar.
-pub fn bar_letter(bar: Bar) -> &'static [u8]
-    ensures { result.now ≡ bar_letter bar }
+pub fn bar_letter(bar: Bar) -> u8
+    ensures { bar_letter bar ≡ result ∷ [] }
 {
     match bar {
-        Bar::Unborn => b"-",
-        Bar::Runs => b"R",
-        Bar::Blocked => b"B",
-        Bar::Granted => b"G",
-        Bar::Ended => b"E",
+        Bar::Unborn => b'-',
+        Bar::Runs => b'R',
+        Bar::Blocked => b'B',
+        Bar::Granted => b'G',
+        Bar::Ended => b'E',
     }
 }
 

@@ -1,0 +1,20 @@
+use Rattle.std.proofs.Common.{refl, arith}
+use Rattle.std.proofs.lemmas.Fmt.{length-decimal-le}
+use Rattle.tm_timeline.proofs.RowTextsLemmas.{length-text}
+use Rattle.tm_timeline.proofs.row_texts.RowText.put_number.Goals as goal
+
+pub write_digits-self-inside-requires : goal.write_digits-self-inside-requires
+write_digits-self-inside-requires c =
+    let i = c.self.inside in
+    let long = length-decimal-le 20 c.args.number (omega arith) (omega arith) c.ranges.number.fits in
+    let was = length-text i.start i.bytes c.args.self.now c.self.view_is c.self.told c.self.invariant.within in
+    (omega (arith, long, was, c.requires), omega (arith, c.self.invariant.within, c.self.told))
+
+pub returns-clause-len : goal.returns-clause-len
+returns-clause-len c =
+    let i = c.self.inside in
+    let w = c.write_digits-self-inside in
+    let long = length-decimal-le 20 c.args.number (omega arith) (omega arith) c.ranges.number.fits in
+    let was = length-text i.start i.bytes c.args.self.now c.self.view_is c.self.told c.self.invariant.within in
+    let is = length-text w.result w.new.buf _ refl (omega (arith, w.auto.buf, c.self.told)) (omega (arith, w.ensures.start, c.self.invariant.within)) in
+    omega (arith, long, was, is, w.ensures.start)
