@@ -8,3 +8,5 @@ pub mod Granted
 pub mod Showings
 pub mod RefusalsLemmas
 pub mod UniqueCauses
+pub mod BitsLemmas
+pub mod ChoosingLemmas

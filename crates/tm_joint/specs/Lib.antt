@@ -7,5 +7,6 @@ pub mod StoredObjects
 pub mod Readings
 pub mod StoredJoints
 pub mod JointCodes
+pub mod Bits
 pub mod StoredBars
 pub mod Showing

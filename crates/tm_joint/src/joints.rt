@@ -1,6 +1,7 @@
-ghost use Rattle.std.specs.Prelude.{◌≡◌, ◌+◌, ◌<◌, ◌≤◌, ◌^◌, ◌∷◌, map, max, IfErr, IfNone, IfOk, IfSome, OnErr, OnOk, length};
+ghost use Rattle.std.specs.Prelude.{◌≡◌, ◌+◌, ◌<◌, ◌≤◌, ◌^◌, ◌∷◌, count_by, map, max, IfErr, IfNone, IfOk, IfSome, OnErr, OnOk, Some, length, slice_get};
 ghost use Rattle.tm_programs.specs.Programs.{Over};
 ghost use Rattle.tm_replay.specs.Bars.{bar_of, bars_of, is_over, is_runnable, is_stuck};
+ghost use Rattle.tm_replay.specs.Choosing.{next_thread, runnable_threads};
 ghost use Rattle.tm_replay.specs.JointStates.{first_object_state, first_thread_state, start, unbegun};
 ghost use Rattle.tm_replay.specs.JointSteps.{JointStep};
 ghost use Rattle.tm_joint.specs.Joints.{IsKept};
@@ -156,6 +157,38 @@ impl<'x> Joint<'x> {
         ensures { result ≡ is_runnable (bar_of self.now.state thread) }
     {
         is_runnable(self.bar(thread))
+    }
+
+    /// How many threads are runnable.
+    pub fn runnable_count(&self) -> u64
+        ensures count { result ≡ count_by is_runnable (bars_of self.now.state) }
+        ensures listed { result ≡ length (runnable_threads (bars_of self.now.state)) }
+    {
+        self.bars.runnable_count()
+    }
+
+    /// The runnable thread at this place, from 0, in rising number. `None` exactly where there are no more.
+    pub fn nth_runnable(&self, nth: u64) -> Option<u32>
+        ensures { result ≡ slice_get (runnable_threads (bars_of self.now.state)) nth }
+    {
+        self.bars.nth_runnable(nth)
+    }
+
+    /// The next runnable thread in cyclic order after this one, which is 0 to `threads`. `None` exactly where
+    /// none is runnable.
+    pub fn next_runnable(&self, last: u32) -> Option<u32>
+        requires { last ≤ length self.now.exercise.programs }
+        ensures { result ≡ next_thread (bars_of self.now.state) last }
+    {
+        self.bars.next_runnable(last)
+    }
+
+    /// Where the thread stands. The thread is 0 to `threads`.
+    pub fn seat(&self, thread: u32) -> &Seat
+        requires { thread ≤ length self.now.exercise.programs }
+        ensures { slice_get self.now.state.threads thread ≡ Some result.now }
+    {
+        &self.seats[thread as usize]
     }
 
     /// Whether a thread hasn't ended, and none is runnable.

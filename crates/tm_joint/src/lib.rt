@@ -3,6 +3,7 @@
 
 mod asked;
 mod bars;
+mod bits;
 mod joints;
 mod judging;
 mod laws;
@@ -12,9 +13,11 @@ mod seats;
 mod showing;
 
 pub use asked::Asked;
+pub use bars::is_runnable;
 pub use joints::Joint;
 pub use laws::{causes_are_unique, refused_events_are_no_steps};
 pub use refusals::{Cause, Illegal};
+pub use seats::Seat;
 
 #[cfg(test)]
 mod tests;

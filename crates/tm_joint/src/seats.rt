@@ -36,7 +36,7 @@ impl Model for Seat {
 
 impl Seat {
     /// The seat of `main` before its first event.
-    pub fn main(alloc: Global) -> Seat
+    pub(crate) fn main(alloc: Global) -> Seat
         ensures { result ≡ first_thread_state Phase.Main Over }
     {
         Seat {
@@ -49,7 +49,7 @@ impl Seat {
     }
 
     /// The seat of a program thread that hasn't begun. The thread is 1 to `threads`.
-    pub fn make(alloc: Global, exercise: &Exercise, thread: u32) -> Result<Seat, NoMemory>
+    pub(crate) fn make(alloc: Global, exercise: &Exercise, thread: u32) -> Result<Seat, NoMemory>
         requires program { 1 ≤ thread }
         requires known { thread ≤ length exercise.now.programs }
         ensures { IfOk result (λ seat. seat ≡ unbegun (instructions_of exercise.now thread)) }
@@ -84,6 +84,13 @@ impl Seat {
         self.stamp
     }
 
+    /// How many calls the thread has made, its `begin` and `end` not counted.
+    pub fn made(&self) -> u64
+        ensures { result ≡ self.now.made }
+    {
+        self.made
+    }
+
     /// What the thread's program asks next. `None` exactly after the reply `Stopped`.
     pub fn asked(&self) -> Option<Ask>
         ensures { result ≡ asked_of self.now.rest }
@@ -92,7 +99,7 @@ impl Seat {
     }
 
     /// The thread goes on by its event.
-    pub fn go_on(&mut self, entry: &Entry)
+    pub(crate) fn go_on(&mut self, entry: &Entry)
         requires place { entry.now.place < 2 ^ 63 }
         requires made { self.old.made < 2 ^ 63 }
         ensures { self.new ≡ stepped self.old entry.now }

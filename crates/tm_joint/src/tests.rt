@@ -2,6 +2,7 @@ use super::*;
 use std::test::Fail;
 use tm_base::{Bar, Entry, Op, Reply};
 use tm_merge::Missing;
+use tm_replay::Phase;
 use tm_text::read;
 
 /// Two threads that take one mutex in turn.
@@ -104,5 +105,30 @@ fn a_waiting_thread_is_granted_and_resumes(rt: HostRuntime) -> Result<(), Fail> 
         assert_eq!(rt; joint.bars(), bars.as_slice());
     }
     assert!(rt; joint.over());
+    Ok(())
+}
+
+#[test]
+fn the_runnable_threads_are_counted_and_found(rt: HostRuntime) -> Result<(), Fail> {
+    let exercise = read(rt.alloc(), PAIR)?;
+    assert_eq!(rt; exercise.threads(), 2);
+    assert_eq!(rt; exercise.objects(), 3);
+    let mut joint = Joint::make(rt.alloc(), &exercise)?;
+    assert_eq!(rt; joint.runnable_count(), 2);
+    assert_eq!(rt; joint.next_runnable(1), Some(2));
+    assert_eq!(rt; joint.next_runnable(2), Some(1));
+    let begin = event(2, 1, 2, 1, 1, Op::Begin, Reply::Ok);
+    let lock = event(1, 2, 0, 1, 2, Op::Lock, Reply::Ok);
+    let wait = event(2, 2, 0, 2, 3, Op::Lock, Reply::Wait);
+    assert_eq!(rt; joint.apply(&BEGIN), Ok(()));
+    assert_eq!(rt; joint.apply(&begin), Ok(()));
+    assert_eq!(rt; joint.apply(&lock), Ok(()));
+    assert_eq!(rt; joint.apply(&wait), Ok(()));
+    assert_eq!(rt; joint.runnable_count(), 1);
+    assert_eq!(rt; joint.nth_runnable(0), Some(1));
+    assert_eq!(rt; joint.nth_runnable(1), None);
+    assert_eq!(rt; joint.next_runnable(1), Some(1));
+    assert_eq!(rt; joint.seat(2).made(), 1);
+    assert_eq!(rt; joint.seat(2).phase(), Phase::Waits(0));
     Ok(())
 }

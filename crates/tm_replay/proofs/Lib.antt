@@ -8,3 +8,4 @@ pub mod ProjectionsLemmas
 pub mod ClosedPrefixesLemmas
 pub mod JointOrderLemmas
 pub mod RunnableThreadsLemmas
+pub mod ChoosingLemmas

@@ -1,6 +1,7 @@
 pub mod JointStates
 pub mod JointSteps
 pub mod Bars
+pub mod Choosing
 pub mod Ends
 pub mod SoundStates
 pub mod Work

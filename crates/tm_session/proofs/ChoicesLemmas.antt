@@ -10,27 +10,8 @@ use Rattle.std.proofs.lemmas.Option.{slice_get-map, slice_get_within, slice_get-
 use Rattle.tm_base.specs.declared.bars.Bar.{Bar}
 use Rattle.tm_replay.specs.JointStates.{JointState}
 use Rattle.tm_replay.specs.Bars.{bar_of, bars_of, is_runnable, is_over, is_stuck}
+pub use Rattle.tm_replay.proofs.ChoosingLemmas.{find-range, find-range_none}
 use Rattle.tm_session.specs.Choices.{runs_at, is_runnable_bar, next_thread, runnable_threads, picked, chosen_thread, cyclic}
-
--- the first number of a range that passes
-pub find-range : (p : ℕ → Bool) (from n t : ℕ) → from ≤ t → t < from + n → ((k : ℕ) → from ≤ k → k < t → p k ≡ false) → p t ≡ true → find p (range_with_len from n) ≡ Some t
-find-range p from zero t low high before here = absurd (omega (arith, low, high))
-find-range p from (suc n) t low high before here = ⊎_elim
-    (λ (later : from < t).
-    let first : p from ≡ false = before from (omega arith) later in
-    ap (λ b. cond b (Some from) (find p (range_with_len (from + 1) n))) first
-    ∙ find-range p (from + 1) n t (omega (arith, later)) (omega (arith, high)) (λ k l h. before k (omega (arith, l)) h) here)
-    (λ (now : t ≤ from).
-    let same : from ≡ t = omega (arith, low, now) in
-    let first : p from ≡ true = ap p same ∙ here in
-    ap (λ b. cond b (Some from) (find p (range_with_len (from + 1) n))) first ∙ ap Some same)
-    (cases_lt from t)
-
-pub find-range_none : (p : ℕ → Bool) (from n : ℕ) → ((k : ℕ) → from ≤ k → k < from + n → p k ≡ false) → find p (range_with_len from n) ≡ None
-find-range_none p from zero before = refl
-find-range_none p from (suc n) before =
-    ap (λ b. cond b (Some from) (find p (range_with_len (from + 1) n))) (before from (omega arith) (omega arith))
-    ∙ find-range_none p (from + 1) n (λ k l h. before k (omega (arith, l)) (omega (arith, h)))
 
 -- what was found passes
 pub find-passes : {A : Type 0} (p : A → Bool) (xs : List A) (x : A) → find p xs ≡ Some x → p x ≡ true
