@@ -1,5 +1,5 @@
 -- The runnable threads by a set of places.
-use Rattle.std.proofs.Common.{◌≡◌, ℕ, zero, suc, ◌+◌, ◌-◌, ◌<◌, ◌≤◌, ◌⊎◌, inl, inr, Bool, true, false, cond, List, [], ◌∷◌, ◌++◌, length, filter, find, Option, Some, None, slice_get, refl, ap, sym, ◌∙◌, arith}
+use Rattle.std.proofs.Common.{◌≡◌, ℕ, zero, suc, ◌+◌, ◌-◌, ◌<◌, ◌≤◌, ◌⊎◌, inl, inr, Bool, true, false, cond, List, [], ◌∷◌, length, filter, find, Option, Some, None, slice_get, refl, ap, sym, ◌∙◌, arith}
 use Rattle.std.specs.List.{range_with_len, count_by}
 use Rattle.std.specs.Option.{option_or}
 use Rattle.std.proofs.lemmas.Bool.{cases_lt}
@@ -10,7 +10,7 @@ use Rattle.std.proofs.lemmas.Option.{slice_get_within}
 use Rattle.tm_base.specs.declared.bars.Bar.{Bar}
 use Rattle.tm_laws.specs.Counts.{bit}
 use Rattle.tm_replay.specs.Bars.{is_runnable}
-use Rattle.tm_replay.specs.Choosing.{cyclic, is_runnable_bar, next_thread, runnable_threads, runs_at}
+use Rattle.tm_replay.specs.Choosing.{is_runnable_bar, next_thread, runnable_threads, runs_at}
 use Rattle.tm_replay.proofs.ChoosingLemmas.{filter-range, filter-range_none, find-range, find-range_none}
 use Rattle.tm_joint.specs.Bits.{HasNoPlace, HasRunnable, IsFirstPlace}
 

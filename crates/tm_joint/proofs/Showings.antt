@@ -1,7 +1,7 @@
 -- The bars after an event are those of the joint state that it leaves.
-use Rattle.std.proofs.Common.{◌≡◌, ◌≢◌, ℕ, zero, suc, ◌+◌, ◌-◌, ◌<◌, ◌≤◌, true, false, if◌then◌else◌, List, [], ◌∷◌, map, length, length-set, replicate, Option, Some, slice_get, ⊎_elim, refl, ap, sym, ◌∙◌, subst, arith, eq-eqb, ne_eqb, eqb-true}
+use Rattle.std.proofs.Common.{◌≡◌, ◌≢◌, ℕ, zero, suc, ◌+◌, ◌-◌, ◌<◌, ◌≤◌, true, false, not, ◌||◌, ◌==◌, if◌then◌else◌, List, [], ◌∷◌, map, length, length-set, replicate, Option, Some, None, slice_get, ⊎_elim, refl, ap, sym, ◌∙◌, subst, arith, eq-eqb, ne_eqb, eqb-true}
 use Rattle.std.specs.List.{range_with_len}
-use Rattle.std.proofs.lemmas.Bool.{cases_Bool, cases_eq}
+use Rattle.std.proofs.lemmas.Bool.{cases_Bool, cases_eq, false≢true}
 use Rattle.std.proofs.lemmas.List.{length-map}
 use Rattle.std.proofs.lemmas.List.FromFn.{length-map-range_with_len}
 use Rattle.std.proofs.lemmas.Option.{slice_get_within}
@@ -13,6 +13,7 @@ use Rattle.tm_base.specs.declared.replies.Reply.{Reply}
 use Rattle.tm_base.specs.declared.replies.Reply.TheVariants as reply
 use Rattle.tm_base.specs.declared.events.Entry.{Entry}
 use Rattle.tm_base.specs.States.{is_waiting, queued}
+use Rattle.tm_base.specs.Histories.{Lawful}
 use Rattle.tm_laws.specs.Counts.{bit}
 use Rattle.tm_text.specs.Exercises.{ExerciseView}
 use Rattle.tm_programs.specs.declared.instructions.Instruction.{Instruction}
@@ -23,8 +24,8 @@ use Rattle.tm_replay.specs.JointSteps.{JointStep, entered, phase_after, phase_by
 use Rattle.tm_replay.specs.SoundStates.{IsSoundJoint, waits_at}
 use Rattle.tm_replay.specs.Bars.{bar_for, bar_in, bar_of, bars_of, waits_in}
 use Rattle.tm_replay.proofs.SliceLemmas.{found_at, slice_get-set_same}
-use Rattle.tm_joint.specs.Showing.{Shows, bar_by, grants_none, renewed, waiting_bar}
-use Rattle.tm_joint.proofs.Granted.{alike}
+use Rattle.tm_joint.specs.Showing.{Shows, bar_by, grants_none, heir_alone, is_another, renewed, spares, waiting_bar}
+use Rattle.tm_joint.proofs.Granted.{alike, alike-heir}
 use Rattle.tm_joint.proofs.Renewing.{slice_get-set_other}
 
 -- lists with the same elements are equal
@@ -139,23 +140,49 @@ module _ (x : ExerciseView) (j k : JointState) (e : Entry) (sound : IsSoundJoint
 
   -- another thread's bar, by its phase
   module _ (t : ℕ) (low : 1 ≤ t) (high : t ≤ length x.programs) (ne : t ≢ e.thread) where
-    still : grants_none b' e.thread (length (queued b.view.state.kind_state)) ≡ true → is_waiting b'.view.state t ≡ is_waiting b.view.state t
-    still none =
+    -- how many calls wait after the event, and before it
+    abbrev after : ℕ
+    after = length (queued step.happens.state.kind_state)
+
+    abbrev earlier : ℕ
+    earlier = length (queued b.view.state.kind_state)
+
+    still-none : grants_none b' e.thread earlier ≡ true → is_waiting b'.view.state t ≡ is_waiting b.view.state t
+    still-none none =
         let placed = sound.objects e.object b step.happens.object in
         alike b.view e.thread e.op e.reply step.happens.state placed.sound step.happens.lawful
-        (eqb-true (length (queued step.happens.state.kind_state)) (length (queued b.view.state.kind_state) + bit (is_waiting step.happens.state e.thread)) none) t ne low (omega (arith, high, placed.threads))
+        (eqb-true after (earlier + bit (is_waiting step.happens.state e.thread)) none) t ne low (omega (arith, high, placed.threads))
+
+    still-heir : (r : Reply) → e.reply ≡ r → is_another (heir_alone r after earlier) t ≡ true → is_waiting b'.view.state t ≡ is_waiting b.view.state t
+    still-heir (reply.Gave heir) is another = ⊎_elim
+        (λ (one : (after + 1 == earlier) ≡ true).
+        let placed = sound.objects e.object b step.happens.object in
+        let apart : not (heir == t) ≡ true = sym (ap (λ w. is_another (if w then Some heir else None) t) one) ∙ another in
+        alike-heir b.view e.thread e.op heir step.happens.state placed.sound (subst (λ (r : Reply). Lawful b.view e.thread e.op r step.happens.state) is step.happens.lawful)
+        (eqb-true (after + 1) earlier one) t (λ same. false≢true (sym (ap not (eq-eqb heir t (sym same))) ∙ apart)) low (omega (arith, high, placed.threads)))
+        (λ (several : (after + 1 == earlier) ≡ false).
+        absurd (false≢true (sym (ap (λ w. is_another (if w then Some heir else None) t) several) ∙ another)))
+        (cases_Bool (after + 1 == earlier))
+    still-heir r is another = absurd (false≢true another)
+
+    still : spares b' e earlier t ≡ true → is_waiting b'.view.state t ≡ is_waiting b.view.state t
+    still spared = ⊎_elim
+        still-none
+        (λ (some : grants_none b' e.thread earlier ≡ false).
+        still-heir e.reply refl (sym (ap (λ w. w || is_another (heir_alone e.reply after earlier) t) some) ∙ spared))
+        (cases_Bool (grants_none b' e.thread earlier))
 
     abbrev shown : ThreadState → Option Bar
-    shown s = if grants_none b' e.thread (length (queued b.view.state.kind_state)) then Some (bar_in j t s.phase) else renewed b' e.object t s (Some (bar_in j t s.phase))
+    shown s = if spares b' e (length (queued b.view.state.kind_state)) t then Some (bar_in j t s.phase) else renewed b' e.object t s (Some (bar_in j t s.phase))
 
     elsewhere : (s : ThreadState) → waits_at s.phase e.object ≡ false → bar_in j t s.phase ≡ bar_in k t s.phase → shown s ≡ Some (bar_in k t s.phase)
     elsewhere s away same = ⊎_elim
-        (λ (none : grants_none b' e.thread (length (queued b.view.state.kind_state)) ≡ true).
+        (λ (none : spares b' e (length (queued b.view.state.kind_state)) t ≡ true).
         ap (λ w. if w then Some (bar_in j t s.phase) else renewed b' e.object t s (Some (bar_in j t s.phase))) none ∙ ap (λ v. Some v) same)
-        (λ (some : grants_none b' e.thread (length (queued b.view.state.kind_state)) ≡ false).
+        (λ (some : spares b' e (length (queued b.view.state.kind_state)) t ≡ false).
         ap (λ w. if w then Some (bar_in j t s.phase) else renewed b' e.object t s (Some (bar_in j t s.phase))) some
         ∙ ap (λ w. if w then Some (waiting_bar b' t) else Some (bar_in j t s.phase)) away ∙ ap (λ v. Some v) same)
-        (cases_Bool (grants_none b' e.thread (length (queued b.view.state.kind_state))))
+        (cases_Bool (spares b' e (length (queued b.view.state.kind_state)) t))
 
     here : (s : ThreadState) → s.phase ≡ phase.Waits e.object → shown s ≡ Some (bar_in k t s.phase)
     here s waits =
@@ -163,13 +190,13 @@ module _ (x : ExerciseView) (j k : JointState) (e : Entry) (sound : IsSoundJoint
         let was : bar_in j t s.phase ≡ waiting_bar b t = ap (bar_in j t) waits ∙ bar_in-waits j t e.object b step.happens.object in
         let at : waits_at s.phase e.object ≡ true = ap (λ p. waits_at p e.object) waits ∙ eq-eqb e.object e.object refl in
         ⊎_elim
-        (λ (none : grants_none b' e.thread (length (queued b.view.state.kind_state)) ≡ true).
+        (λ (none : spares b' e (length (queued b.view.state.kind_state)) t ≡ true).
         ap (λ w. if w then Some (bar_in j t s.phase) else renewed b' e.object t s (Some (bar_in j t s.phase))) none ∙ ap (λ v. Some v) was
         ∙ ap (λ w. Some (if w then bar.Blocked else bar.Granted)) (sym (still none)) ∙ ap (λ v. Some v) (sym after))
-        (λ (some : grants_none b' e.thread (length (queued b.view.state.kind_state)) ≡ false).
+        (λ (some : spares b' e (length (queued b.view.state.kind_state)) t ≡ false).
         ap (λ w. if w then Some (bar_in j t s.phase) else renewed b' e.object t s (Some (bar_in j t s.phase))) some
         ∙ ap (λ w. if w then Some (waiting_bar b' t) else Some (bar_in j t s.phase)) at ∙ ap (λ v. Some v) (sym after))
-        (cases_Bool (grants_none b' e.thread (length (queued b.view.state.kind_state))))
+        (cases_Bool (spares b' e (length (queued b.view.state.kind_state)) t))
 
     other-bar : (s : ThreadState) (p : Phase) → s.phase ≡ p → shown s ≡ Some (bar_in k t s.phase)
     other-bar s phase.Main is = elsewhere s (ap (λ p. waits_at p e.object) is) (ap (bar_in j t) is ∙ sym (ap (bar_in k t) is))
@@ -199,7 +226,7 @@ module _ (x : ExerciseView) (j k : JointState) (e : Entry) (sound : IsSoundJoint
           let was : slice_get old (t - 1) ≡ Some (bar_in j t s.0.phase) =
           ap (λ l. slice_get l (t - 1)) were ∙ bars-at j t low in_old ∙ ap (λ o. Some (bar_for j t o)) (sym (other-thread t ne) ∙ s.1) in
           shows.others t s.0 low ne s.1
-          ∙ ap (λ o. if grants_none b' e.thread (length (queued b.view.state.kind_state)) then o else renewed b' e.object t s.0 o) was
+          ∙ ap (λ o. if spares b' e (length (queued b.view.state.kind_state)) t then o else renewed b' e.object t s.0 o) was
           ∙ other-bar t low (omega (arith, in_old, sound.thread_count)) ne s.0 s.0.phase refl
           ∙ ap (λ o. Some (bar_for k t o)) (sym s.1)
 

@@ -1,8 +1,10 @@
 -- What an event changes of the bars.
-use Rattle.std.specs.Prelude.{◌≡◌, ◌≢◌, ℕ, ◌+◌, ◌-◌, ◌≤◌, Bool, ◌==◌, if◌then◌else◌, List, length, Option, Some, slice_get}
+use Rattle.std.specs.Prelude.{◌≡◌, ◌≢◌, ℕ, ◌+◌, ◌-◌, ◌≤◌, ◌<◌, Bool, false, not, ◌||◌, ◌==◌, if◌then◌else◌, List, length, Option, Some, None, slice_get}
 use Rattle.tm_base.specs.declared.bars.Bar.{Bar}
 use Rattle.tm_base.specs.declared.bars.Bar.TheVariants as bar
 use Rattle.tm_base.specs.declared.events.Entry.{Entry}
+use Rattle.tm_base.specs.declared.replies.Reply.{Reply}
+use Rattle.tm_base.specs.declared.replies.Reply.TheVariants as reply
 use Rattle.tm_base.specs.States.{is_waiting, queued}
 use Rattle.tm_laws.specs.Counts.{bit}
 use Rattle.tm_replay.specs.declared.phases.Phase.{Phase}
@@ -31,6 +33,12 @@ pub record Renews (threads : List ThreadState) (b : ObjectState) (object : ℕ) 
   pub count : length new ≡ length old
   pub bars : (t : ℕ) (s : ThreadState) → 1 ≤ t → slice_get threads t ≡ Some s → slice_get new (t - 1) ≡ renewed b object t s (slice_get old (t - 1))
 
+-- The bar of this thread was renewed, if it waits at the object, and no other.
+pub record RenewsOne (threads : List ThreadState) (b : ObjectState) (object t : ℕ) (old new : List Bar) : Type 0 where
+  pub count : length new ≡ length old
+  pub own : (s : ThreadState) → slice_get threads t ≡ Some s → slice_get new (t - 1) ≡ renewed b object t s (slice_get old (t - 1))
+  pub others : (u : ℕ) → 1 ≤ u → u ≢ t → slice_get new (u - 1) ≡ slice_get old (u - 1)
+
 -- The bar of this thread was renewed, where it isn't `main`, and no other.
 pub record ShowsOne (threads : List ThreadState) (b : ObjectState) (t : ℕ) (old new : List Bar) : Type 0 where
   pub count : length new ≡ length old
@@ -42,10 +50,29 @@ pub record ShowsOne (threads : List ThreadState) (b : ObjectState) (t : ℕ) (ol
 abbrev pub grants_none : ObjectState → ℕ → ℕ → Bool
 grants_none b t before = length (queued b.view.state.kind_state) == before + bit (is_waiting b.view.state t)
 
--- The bar of the event's thread was renewed, and, unless it granted none, those of the threads that wait at
--- its object; the object is in this state after it, and so many calls waited there before.
+-- The thread that the reply names, where one call fewer waits than before: it was granted, and no other.
+abbrev pub heir_alone : Reply → ℕ → ℕ → Option ℕ
+heir_alone (reply.Gave heir) waiting before = if waiting + 1 == before then Some heir else None
+heir_alone r waiting before = None
+
+-- Another thread than this one was granted alone.
+abbrev pub is_another : Option ℕ → ℕ → Bool
+is_another None t = false
+is_another (Some heir) t = not (heir == t)
+
+-- The event granted nobody, or another thread alone.
+abbrev pub spares : ObjectState → Entry → ℕ → ℕ → Bool
+spares b e before t = grants_none b e.thread before || is_another (heir_alone e.reply (length (queued b.view.state.kind_state)) before) t
+
+-- A thread that the reply names is a program thread, of which there are one fewer than threads.
+abbrev pub NamesKnown : Reply → ℕ → Type 0
+NamesKnown (reply.Gave heir) threads = (1 ≤ heir) × (heir < threads)
+NamesKnown r threads = Unit {0}
+
+-- The bar of the event's thread was renewed, and those of the threads that wait at its object and that it
+-- didn't spare; the object is in this state after it, and so many calls waited there before.
 pub record Shows (threads : List ThreadState) (b : ObjectState) (e : Entry) (before : ℕ) (old new : List Bar) : Type 0 where
   pub count : length new ≡ length old
   pub own : (s : ThreadState) → 1 ≤ e.thread → slice_get threads e.thread ≡ Some s → slice_get new (e.thread - 1) ≡ Some (bar_by b e.thread s.phase)
   pub others : (t : ℕ) (s : ThreadState) → 1 ≤ t → t ≢ e.thread → slice_get threads t ≡ Some s
-      → slice_get new (t - 1) ≡ (if grants_none b e.thread before then slice_get old (t - 1) else renewed b e.object t s (slice_get old (t - 1)))
+      → slice_get new (t - 1) ≡ (if spares b e before t then slice_get old (t - 1) else renewed b e.object t s (slice_get old (t - 1)))

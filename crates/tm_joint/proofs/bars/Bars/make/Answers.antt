@@ -1,4 +1,4 @@
-use Rattle.std.proofs.Common.{◌≡◌, ◌≤◌, ℕ, List, length, replicate, sym, subst, arith, rules}
+use Rattle.std.proofs.Common.{◌≡◌, List, replicate, sym, subst, arith, rules}
 use Rattle.std.proofs.lemmas.Grind.{common_steps}
 use Rattle.tm_base.specs.declared.bars.Bar.{Bar}
 use Rattle.tm_base.specs.declared.bars.Bar.TheVariants as bar

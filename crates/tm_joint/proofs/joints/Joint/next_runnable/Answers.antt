@@ -1,4 +1,4 @@
-use Rattle.std.proofs.Common.{◌≤◌, ◌-◌, length, ap, sym, subst, arith}
+use Rattle.std.proofs.Common.{◌≤◌, length, ap, sym, subst, arith}
 use Rattle.tm_joint.specs.Joints.{JointView}
 use Rattle.tm_joint.specs.StoredJoints.{state_of}
 use Rattle.tm_joint.proofs.Showings.{length-bars}

@@ -12,7 +12,7 @@ use Rattle.tm_joint.specs.Refusals.{IsLegal}
 use Rattle.tm_joint.specs.Showing.{Shows}
 use Rattle.tm_joint.specs.StoredJoints.{joint_view, state_of}
 use Rattle.tm_joint.proofs.Answering.{Lawful-can}
-use Rattle.tm_joint.proofs.Granted.{waiters-few}
+use Rattle.tm_joint.proofs.Granted.{names-known, waiters-few}
 use Rattle.tm_joint.proofs.Showings.{Shows-after, length-bars}
 use Rattle.tm_joint.proofs.Performing.{IsKept-step, allowed-here, answer-here, performs}
 use Rattle.tm_joint.proofs.joints.Joint.perform.Goals as goal
@@ -114,6 +114,16 @@ show-requires-clause-few c =
     let b = c.index_mut-object.result.now in
     let placed = c.self.invariant.kept.sound.objects c.args.entry.now.object b (object d) in
     omega (arith, waited (goal.at.show-requires-clause-few c).After-go_on, waiters-few b.view placed.sound, placed.threads, c.self.invariant.kept.formed.few_threads)
+
+pub show-requires-clause-named : goal.show-requires-clause-named
+show-requires-clause-named c =
+    let d = (goal.at.show-requires-clause-named c).After-index_mut-object in
+    let i = c.self.inside in
+    let e = c.args.entry.now in
+    let b = c.index_mut-object.result.now in
+    let placed = c.self.invariant.kept.sound.objects e.object b (object d) in
+    names-known b.view e.thread e.op e.reply c.enter.ensures.0 _ placed.sound c.enter.ensures.1
+    (omega (arith, ap length c.as_slice.ensures.value, length-set i.seats.items e.thread c.go_on.new.self, c.self.invariant.kept.sound.thread_count, placed.threads))
 
 pub returns-clause-step : goal.returns-clause-step
 returns-clause-step c =
