@@ -127,6 +127,7 @@ impl<'x> Collector<'x> {
     /// The joint state that the applied events leave.
     pub fn joint(&self) -> &Joint<'x>
         ensures value { result.now ≡ self.now.joint }
+        ensures exercise { result.now.exercise ≡ self.now.exercise }
         ensures run { IsJointRun self.now.exercise (shown_of self.now) result.now.state }
     {
         &self.writer.joint

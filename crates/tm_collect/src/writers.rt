@@ -8,7 +8,7 @@ use tm_base::{Entry, NoMemory};
 use tm_joint::{Illegal, Joint};
 use tm_outside::{Sink, write_all};
 use tm_text::Exercise;
-use tm_timeline::row;
+use tm_timeline::append_row;
 
 /// The greatest number of events that a replayer takes. No memory holds so many.
 const MOST_EVENTS: u64 = 1 << 62;
@@ -20,13 +20,14 @@ pub enum Stop {
     NoMemory,
 }
 
-/// Applies events and writes their rows: the joint state so far, and whether a write has failed.
+/// Applies events and writes their rows: the joint state so far, and whether a write has failed. Each row is
+/// made where the one before it stood.
 #[derive(Drop)]
 pub struct Writer<'x> {
-    pub alloc: Global,
     pub exercise: &'x Exercise,
     pub joint: Joint<'x>,
     pub write_fault: bool,
+    row: Vec<u8>,
 }
 
 impl<'x> Writer<'x> {
@@ -38,10 +39,10 @@ impl<'x> Writer<'x> {
     {
         let joint = Joint::make(alloc, exercise)?;
         Ok(Writer {
-            alloc,
             exercise,
             joint,
             write_fault: false,
+            row: Vec::new(alloc),
         })
     }
 
@@ -92,21 +93,23 @@ impl<'x> Writer<'x> {
         }
         let number = self.joint.applied();
         let bars = self.joint.bars();
-        let Ok(line) = row(self.alloc, self.exercise, number, &entry, bars) else {
+        self.row.clear();
+        let Ok(()) = append_row(&mut self.row, self.exercise, number, &entry, bars) else {
             return Err(Stop::NoMemory);
         };
-        self.send(sink, line.as_slice());
+        self.send_row(sink);
         Ok(())
     }
 
-    /// Writes the bytes, unless a write failed before.
-    fn send<K: Sink>(&mut self, sink: &mut K, bytes: &[u8])
+    /// Writes the row in one piece, unless a write failed before.
+    fn send_row<K: Sink>(&mut self, sink: &mut K)
         ensures sent { Sends
             (record { failed = self.old.write_fault; faults = K.fault_count sink.old; written = K.written sink.old })
-            (record { failed = self.new.write_fault; faults = K.fault_count sink.new; written = K.written sink.new }) bytes.now }
+            (record { failed = self.new.write_fault; faults = K.fault_count sink.new; written = K.written sink.new }) self.old.row.items }
         ensures joint { self.new.joint ≡ self.old.joint }
         ensures exercise { self.new.exercise ≡ self.old.exercise }
     {
+        let bytes = self.row.as_slice();
         if !self.write_fault {
             self.write_fault = write_all(sink, bytes).is_err();
         }

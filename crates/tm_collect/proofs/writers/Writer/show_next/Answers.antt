@@ -1,4 +1,4 @@
-use Rattle.std.proofs.Common.{◌≡◌, ◌+◌, ℕ, List, length, slice_get, Some, slice_index_or, ◌<◌, ◌≤◌, refl, sym, ap, ◌∙◌, subst, arith}
+use Rattle.std.proofs.Common.{◌≡◌, ◌+◌, ◌++◌, ℕ, List, length, slice_get, Some, slice_index_or, ◌<◌, ◌≤◌, refl, sym, ap, ◌∙◌, subst, arith}
 use Rattle.std.proofs.lemmas.Option.{slice_get-get_or}
 use Rattle.tm_base.specs.declared.events.Entry.{Entry}
 use Rattle.tm_base.specs.declared.operations.Op.TheVariants as op
@@ -45,14 +45,14 @@ returns-in-Err-clause-stops g c =
     stopped c.args.self.now.exercise.now es v c.apply.new.self _ _ c.in-Err.illegal c.requires.exercise c.in-Err.ensures.unchanged (omega (arith, c.requires.left))
     (there es v.applied c.applied-before.result _ c.applied-before.ensures.value c.requires.left) c.in-Err.ensures.cause
 
-pub row-requires-clause-granted : goal.row-requires-clause-granted
-row-requires-clause-granted g c =
+pub append_row-requires-clause-granted : goal.append_row-requires-clause-granted
+append_row-requires-clause-granted g c =
     let v = c.args.self.now.joint in
     subst (λ (y : ExerciseView). NamesThread y (slice_index_or c.args.shown.now c.applied-before.result (record { thread = 0; place = 0; object = 0; at = 0; stamp = 0; op = op.Lock; reply = reply.Ok })).reply) c.requires.exercise
     (step-names v.exercise v.state c.apply.new.self.state _ c.applied-before.ensures.kept.sound c.in_default.ensures.step)
 
-pub row-requires-clause-bars : goal.row-requires-clause-bars
-row-requires-clause-bars g c =
+pub append_row-requires-clause-bars : goal.append_row-requires-clause-bars
+append_row-requires-clause-bars g c =
     let w = c.apply.new.self in
     bars-count c.args.self.now.exercise.now w.state c.bars-bars.result.now
     (subst (λ (y : ExerciseView). IsSoundJoint y w.state) (c.in_default.ensures.exercise ∙ c.requires.exercise) c.applied-number.ensures.kept.sound) c.bars-bars.ensures
@@ -63,8 +63,8 @@ advanced : (x : ExerciseView) (es : List Entry) (v w : JointView) (i : ℕ) (d :
 advanced x es v w i d n bars line same left place step counted exercise number shown row =
     along x es v w (slice_index_or es i d) n bars line same (there es v.applied i d place left) step counted exercise number shown row
 
-pub returns-in_default-row-clause-stops : goal.returns-in_default-row-clause-stops
-returns-in_default-row-clause-stops g c =
+pub returns-in_default-append_row-clause-stops : goal.returns-in_default-append_row-clause-stops
+returns-in_default-append_row-clause-stops g c =
     let x = c.args.self.now.exercise.now in
     let e = slice_index_or c.args.shown.now c.applied-before.result (record { thread = 0; place = 0; object = 0; at = 0; stamp = 0; op = op.Lock; reply = reply.Ok }) in
     let line = row_of x c.applied-number.result e c.bars-bars.result.now in
@@ -78,11 +78,13 @@ returns-in_default-row-clause-stops g c =
 pub returns-clause-shows : goal.returns-clause-shows
 returns-clause-shows g c =
     let w = c.apply.new.self in
-    let line = c.as_slice.result.now in
+    let line = c.append_row.new.out.items in
+    let made = row_of c.args.self.now.exercise.now c.applied-number.result (slice_index_or c.args.shown.now c.applied-before.result (record { thread = 0; place = 0; object = 0; at = 0; stamp = 0; op = op.Lock; reply = reply.Ok })) c.bars-bars.result.now in
+    let row : line ≡ made = c.in-Ok.ensures.appended ∙ ap (λ (l : List ℕ). l ++ made) c.clear.ensures.items in
     let one = advanced c.args.self.now.exercise.now c.args.shown.now c.args.self.now.joint w c.applied-before.result _ c.applied-number.result c.bars-bars.result.now line c.requires.exercise c.requires.left
-    c.applied-before.ensures.value c.in_default.ensures.step c.in_default.ensures.counted c.in_default.ensures.exercise c.applied-number.ensures.value c.bars-bars.ensures (c.as_slice.ensures ∙ c.in-Ok.ensures) in
+    c.applied-before.ensures.value c.in_default.ensures.step c.in_default.ensures.counted c.in_default.ensures.exercise c.applied-number.ensures.value c.bars-bars.ensures row in
     record {
       rows = line;
-      advances = subst (λ (u : JointView). Advances c.args.self.now.exercise.now c.args.shown.now c.args.self.now.joint u line) (sym c.send.ensures.joint) one;
-      sent = c.send.ensures.sent;
+      advances = subst (λ (u : JointView). Advances c.args.self.now.exercise.now c.args.shown.now c.args.self.now.joint u line) (sym c.send_row.ensures.joint) one;
+      sent = c.send_row.ensures.sent;
     }
