@@ -9,3 +9,4 @@ pub mod ClosedPrefixesLemmas
 pub mod JointOrderLemmas
 pub mod RunnableThreadsLemmas
 pub mod ChoosingLemmas
+pub mod DeterminedStepsLemmas

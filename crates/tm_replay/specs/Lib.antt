@@ -9,3 +9,4 @@ pub mod Projections
 pub mod ClosedPrefixes
 pub mod JointOrder
 pub mod RunnableThreads
+pub mod DeterminedSteps

@@ -4,6 +4,7 @@
 mod phases;
 
 ghost use Rattle.tm_replay.specs.ClosedPrefixes.{PrefixesAreClosed};
+ghost use Rattle.tm_replay.specs.DeterminedSteps.{StepsAreDetermined};
 ghost use Rattle.tm_replay.specs.JointOrder.{RunsAreStamped, RunsAreWellPlaced};
 ghost use Rattle.tm_replay.specs.Projections.{ObjectsHaveHistories, ThreadsHavePlaces};
 ghost use Rattle.tm_replay.specs.RunnableThreads.{RunnableThreadsCanMove};
@@ -46,4 +47,10 @@ pub fn runs_are_stamped()
 /// and its program is on one of the exercise's objects, which can answer it.
 pub fn runnable_threads_can_move()
     ensures { RunnableThreadsCanMove }
+{}
+
+/// Thread, object and operation fix a joint step: the event that happens, with its places, stamp and reply, and
+/// the joint state after it.
+pub fn steps_are_determined()
+    ensures { StepsAreDetermined }
 {}
