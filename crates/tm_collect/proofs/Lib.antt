@@ -2,3 +2,6 @@ pub mod SendingLemmas
 pub mod AdvancingLemmas
 pub mod CollectingLemmas
 pub mod PumpingLemmas
+pub mod NextPlacesLemmas
+pub mod NextArrivalsLemmas
+pub mod NextEventsLemmas

@@ -6,3 +6,4 @@ pub mod CollectorCodes
 pub mod StoredCollectors
 pub mod Handing
 pub mod Pumping
+pub mod NextEvents

@@ -129,6 +129,8 @@ impl<'x> Collector<'x> {
         ensures value { result.now ≡ self.now.joint }
         ensures exercise { result.now.exercise ≡ self.now.exercise }
         ensures run { IsJointRun self.now.exercise (shown_of self.now) result.now.state }
+        ensures exercise { result.now.exercise ≡ self.now.exercise }
+        ensures kept { IsCollecting self.now }
     {
         &self.writer.joint
     }

@@ -3,10 +3,12 @@
 #![tactic(auto)]
 
 mod collectors;
+mod laws;
 mod refusals;
 mod writers;
 
 pub use collectors::Collector;
+pub use laws::{next_events_are_shown, next_rows_are_begun};
 pub use refusals::Refusal;
 
 #[cfg(test)]

@@ -184,13 +184,13 @@ module _ (x : ExerciseView) (key number : Entry → ℕ) (Knows : JointState →
 
 module _ (x : ExerciseView) where
   -- the thread has this next place and this last stamp
-  abbrev KnowsThread : JointState → ℕ → ℕ → ℕ → Type 0
+  abbrev pub KnowsThread : JointState → ℕ → ℕ → ℕ → Type 0
   KnowsThread j t next stamp = (s : ThreadState) × (slice_get j.threads t ≡ Some s) × (next ≡ s.next) × (stamp ≡ s.stamp)
 
   thread-before : (j : JointState) (e : Entry) (k : JointState) → JointStep x j e k → (stamp : ℕ) × KnowsThread j e.thread e.place stamp
   thread-before j e k step = (step.happens.thread_state.stamp, (step.happens.thread_state, step.happens.thread, step.happens.place, refl))
 
-  thread-after : (j : JointState) (e : Entry) (k : JointState) → JointStep x j e k → (t next stamp : ℕ) → KnowsThread k t next stamp
+  pub thread-after : (j : JointState) (e : Entry) (k : JointState) → JointStep x j e k → (t next stamp : ℕ) → KnowsThread k t next stamp
       → ((t ≡ e.thread) × (next ≡ suc e.place) × (stamp ≡ e.stamp)) ⊎ ((t ≢ e.thread) × KnowsThread j t next stamp)
   thread-after j e k step t next stamp knows =
       let s' : ThreadState = stepped step.happens.thread_state e in
@@ -202,7 +202,7 @@ module _ (x : ExerciseView) where
       (λ (other : (t ≢ e.thread) × (slice_get j.threads t ≡ Some knows.0)). inr (other.0, (knows.0, other.1, knows.2, knows.3)))
       (slice_get-set_cases j.threads e.thread t s' knows.0 found)
 
-  thread-none : (t next stamp : ℕ) → KnowsThread (start x) t next stamp → (next ≡ 1) × (stamp ≡ 0)
+  pub thread-none : (t next stamp : ℕ) → KnowsThread (start x) t next stamp → (next ≡ 1) × (stamp ≡ 0)
   thread-none zero next stamp knows =
       let main : first_thread_state phase.Main Over ≡ knows.0 = let found = knows.1 in cc in
       (knows.2 ∙ ap (λ (s : ThreadState). s.next) (sym main), knows.3 ∙ ap (λ (s : ThreadState). s.stamp) (sym main))
@@ -211,13 +211,13 @@ module _ (x : ExerciseView) where
       (knows.2 ∙ ap (λ (s : ThreadState). s.next) (sym at), knows.3 ∙ ap (λ (s : ThreadState). s.stamp) (sym at))
 
   -- the object has this next place and this last stamp
-  abbrev KnowsObject : JointState → ℕ → ℕ → ℕ → Type 0
+  abbrev pub KnowsObject : JointState → ℕ → ℕ → ℕ → Type 0
   KnowsObject j o next stamp = (b : ObjectState) × (slice_get j.objects o ≡ Some b) × (next ≡ suc b.at) × (stamp ≡ b.stamp)
 
   object-before : (j : JointState) (e : Entry) (k : JointState) → JointStep x j e k → (stamp : ℕ) × KnowsObject j e.object e.at stamp
   object-before j e k step = (step.happens.object_state.stamp, (step.happens.object_state, step.happens.object, step.happens.at, refl))
 
-  object-after : (j : JointState) (e : Entry) (k : JointState) → JointStep x j e k → (o next stamp : ℕ) → KnowsObject k o next stamp
+  pub object-after : (j : JointState) (e : Entry) (k : JointState) → JointStep x j e k → (o next stamp : ℕ) → KnowsObject k o next stamp
       → ((o ≡ e.object) × (next ≡ suc e.at) × (stamp ≡ e.stamp)) ⊎ ((o ≢ e.object) × KnowsObject j o next stamp)
   object-after j e k step o next stamp knows =
       let b' : ObjectState = entered step.happens.object_state e step.happens.state in
@@ -228,7 +228,7 @@ module _ (x : ExerciseView) where
       (λ (other : (o ≢ e.object) × (slice_get j.objects o ≡ Some knows.0)). inr (other.0, (knows.0, other.1, knows.2, knows.3)))
       (slice_get-set_cases j.objects e.object o b' knows.0 found)
 
-  object-none : (o next stamp : ℕ) → KnowsObject (start x) o next stamp → (next ≡ 1) × (stamp ≡ 0)
+  pub object-none : (o next stamp : ℕ) → KnowsObject (start x) o next stamp → (next ≡ 1) × (stamp ≡ 0)
   object-none o next stamp knows =
       let at = (mapped-at (λ (d : Declaration). first_object_state (length x.programs) d.kind) x.objects o knows.0 knows.1).2 in
       (knows.2 ∙ ap (λ (b : ObjectState). suc b.at) (sym at), knows.3 ∙ ap (λ (b : ObjectState). b.stamp) (sym at))
