@@ -16,3 +16,9 @@ pub mod HeldOrderLemmas
 pub mod WalkLemmas
 pub mod PlainLemmas
 pub mod FoundedLemmas
+pub mod PredecessorsLemmas
+pub mod FollowingLemmas
+pub mod RisingLemmas
+pub mod SortedLemmas
+pub mod OrderedLemmas
+pub mod IntakeLemmas

@@ -29,7 +29,7 @@ find-element p (y ∷ xs) x h = ⊎_elim
     (Contains-rest y xs x rest.0, rest.1))
     (cases_Bool (p y))
 
-there_is : {A : Type 0} (o : Option A) → is_some o ≡ true → (x : A) × (o ≡ Some x)
+pub there_is : {A : Type 0} (o : Option A) → is_some o ≡ true → (x : A) × (o ≡ Some x)
 there_is None h = absurd cc
 there_is (Some x) h = (x, refl)
 

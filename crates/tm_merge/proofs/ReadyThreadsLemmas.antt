@@ -19,7 +19,7 @@ use Rattle.tm_merge.proofs.ListingLemmas.{once-filter, once-with, listed-with, l
 use Rattle.tm_merge.proofs.NumberingLemmas.{found-snoc}
 
 -- an event that is sooner than one is sooner than all later ones
-sooner_still : (a b c : Entry) → IsSooner a b → IsSooner b c → IsSooner a c
+pub sooner_still : (a b c : Entry) → IsSooner a b → IsSooner b c → IsSooner a c
 sooner_still a b c first second = ⊎_elim
     (λ (less : a.stamp < b.stamp). ⊎_elim
     (λ (more : b.stamp < c.stamp). inl (omega (arith, less, more)))

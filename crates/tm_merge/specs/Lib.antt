@@ -10,3 +10,6 @@ pub mod Candidates
 pub mod Holding
 pub mod HeldOrder
 pub mod PlainCandidates
+pub mod Following
+pub mod Rising
+pub mod Intakes

@@ -1,18 +1,21 @@
-ghost use Rattle.std.specs.Prelude.{◌≡◌, false, ◌<◌, ◌≤◌, length, None, OnOk, IfOk, All};
+ghost use Rattle.std.specs.Prelude.{◌≡◌, false, ◌<◌, ◌≤◌, length, None, OnErr, OnOk, IfOk, All};
 ghost use Rattle.tm_merge.specs.Lines.{IsNewLine};
 ghost use Rattle.tm_merge.specs.MergerViews.{arrived, nothing_arrived};
 ghost use Rattle.tm_merge.specs.Places.{at_place, at_object};
 ghost use Rattle.tm_merge.specs.ReadyThreads.{KeepsAll, ListsAllReady, ListsOnlyReady};
-ghost use Rattle.tm_merge.specs.Refusals.{refusal};
+ghost use Rattle.tm_merge.specs.Refusals.{refusal, stated};
 ghost use Rattle.tm_merge.specs.Showing.{Joins};
 ghost use Rattle.tm_merge.specs.StoredArrivals.{HasRoomFor, KeepsArrivals, view_of};
 
+mod following;
 pub(crate) mod holding;
 mod listing;
+mod ordering;
 pub(crate) mod refusing;
 pub(crate) mod showing;
 
 use crate::lines::Line;
+use crate::refusals::Refused;
 use std::alloc::Global;
 use tm_base::{Entry, NoMemory};
 
@@ -138,6 +141,22 @@ impl Arrivals {
         self.slots[slot]
     }
 
+    /// Takes the event into a slot, unless it is refused or memory runs out.
+    pub(crate) fn hold(&mut self, entry: Entry) -> Result<(), Refused>
+        requires { KeepsAll self.old }
+        ensures all { KeepsAll self.new }
+        ensures judged { stated result ≡ refusal (view_of self.old) entry }
+        ensures joins { OnOk result (Joins (view_of self.old) entry (view_of self.new)) }
+        ensures unchanged { OnErr result (view_of self.new ≡ view_of self.old) }
+    {
+        if let Some(refused) = self.refusal(&entry) {
+            return Err(refused);
+        }
+        self.make_room(&entry)?;
+        self.keep(entry);
+        Ok(())
+    }
+
     /// Makes room for the event, which isn't refused, and for showing all that is held. Only running out
     /// of memory refuses it.
     pub(crate) fn make_room(&mut self, entry: &Entry) -> Result<(), NoMemory>
@@ -188,6 +207,13 @@ impl Arrivals {
         ensures { result.now ≡ self.now.shown.items }
     {
         self.shown.as_slice()
+    }
+
+    /// The events that are shown, in order, without a copy.
+    pub(crate) fn into_shown(self) -> Vec<Entry>
+        ensures { result.items ≡ self.shown.items }
+    {
+        self.shown
     }
 
     /// How many events are held.

@@ -3,6 +3,7 @@
 
 mod arrivals;
 mod holds;
+mod intake;
 mod lines;
 mod mergers;
 mod numbering;

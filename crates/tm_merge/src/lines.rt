@@ -1,5 +1,7 @@
 ghost use Rattle.std.specs.Prelude.{◌≡◌, ◌^◌, ◌<◌, suc, None, Some, OnOk, MatchOption, nat_eq};
+ghost use Rattle.std.specs.Bool.{OnTrue};
 ghost use Rattle.std.specs.HashMap.{get};
+ghost use Rattle.tm_merge.specs.Following.{IsBare, IsFollowedBy};
 ghost use Rattle.tm_merge.specs.Lines.{Gains, HasRoomAt, IsNewLine, IsSameLine, ShowsNext, slot_at};
 
 use std::alloc::Global;
@@ -76,6 +78,36 @@ impl Line {
             return None;
         }
         self.early.get(&number).copied()
+    }
+
+    /// Whether none of its events is held.
+    fn is_bare(&self) -> bool
+        ensures { OnTrue result (IsBare self.now) }
+    {
+        self.waiting.is_empty() && self.early.is_empty()
+    }
+
+    /// Whether an event with this number and stamp follows the shown ones directly, with none held behind it.
+    pub(crate) fn is_followed_by(&self, number: u64, stamp: u64) -> bool
+        ensures { OnTrue result (IsFollowedBy self.now number stamp) }
+    {
+        if number == 0 || number - 1 != self.shown || !self.is_bare() {
+            return false;
+        }
+        match &self.last {
+            Some(before) => before.stamp < stamp,
+            None => true,
+        }
+    }
+
+    /// The event with this number, which follows directly, counts as shown without having been held.
+    pub(crate) fn follow(&mut self, number: u64, entry: Entry)
+        requires bare { IsBare self.old }
+        requires next { number ≡ suc self.old.shown }
+        ensures { ShowsNext self.old number entry self.new }
+    {
+        self.shown = number;
+        self.last = Some(entry);
     }
 
     /// Makes room for the slot of the event with this number, which isn't shown. Only running out of

@@ -6,8 +6,8 @@ ghost use Rattle.tm_merge.specs.Numbering.{HaveOwnPlaces, IsInOrder, IsNumbered,
 ghost use Rattle.tm_merge.specs.Refusals.{refusal, stated};
 ghost use Rattle.tm_merge.specs.Showing.{IsSettled, Joins, Settles};
 
-use crate::arrivals::Arrivals;
 use crate::holds::Hold;
+use crate::intake::Intake;
 use crate::refusals::Refused;
 use std::alloc::Global;
 use std::marker::Model;
@@ -18,7 +18,7 @@ use tm_base::{Entry, NoMemory};
 /// are, the events that are shown, in order, and those that are held.
 #[derive(Drop)]
 pub struct Merger {
-    arrivals: Arrivals,
+    intake: Intake,
 }
 
 impl Model for Merger {
@@ -26,12 +26,11 @@ impl Model for Merger {
 
     ghost Value = { MergerView };
 
-    ghost use Rattle.tm_merge.specs.ReadyThreads.{KeepsAll};
-    ghost use Rattle.tm_merge.specs.StoredArrivals.{view_of};
+    ghost use Rattle.tm_merge.specs.Intakes.{KeepsIntake, intake_view};
 
-    ghost view = { λ m. view_of m.arrivals };
+    ghost view = { λ m. intake_view m.intake };
 
-    ghost invariant = { λ m. KeepsAll m.arrivals };
+    ghost invariant = { λ m. KeepsIntake m.intake };
 }
 
 impl Merger {
@@ -39,8 +38,8 @@ impl Merger {
     pub fn make(alloc: Global, threads: u32, objects: u32) -> Result<Merger, NoMemory>
         ensures { IfOk result (λ merger. merger ≡ nothing_arrived threads objects) }
     {
-        let arrivals = Arrivals::make(alloc, threads, objects)?;
-        Ok(Merger { arrivals })
+        let intake = Intake::make(alloc, threads, objects)?;
+        Ok(Merger { intake })
     }
 
     /// Takes the event, which then is held. It is refused where the first of these holds: its thread,
@@ -53,12 +52,7 @@ impl Merger {
         ensures arrived { OnOk result (IsPermutation (entry ∷ arrived self.old) (arrived self.new)) }
         ensures unchanged { OnErr result (self.new ≡ self.old) }
     {
-        if let Some(refused) = self.arrivals.refusal(&entry) {
-            return Err(refused);
-        }
-        self.arrivals.make_room(&entry)?;
-        self.arrivals.keep(entry);
-        Ok(())
+        self.intake.offer(entry)
     }
 
     /// Shows ready events until there is none, each time the one with the least stamp, and of equal stamps
@@ -68,7 +62,7 @@ impl Merger {
         ensures settles { Settles self.old result self.new }
         ensures arrived { IsPermutation (arrived self.old) (arrived self.new) }
     {
-        self.arrivals.settle()
+        self.intake.settle()
     }
 
     /// The events that are shown, in order. Each stands after all that happened before it (Lamport, CACM
@@ -79,7 +73,14 @@ impl Merger {
         ensures in_order { IsInOrder self.now.shown }
         ensures closed { PrefixesAreClosed self.now.shown (arrived self.now) }
     {
-        self.arrivals.shown()
+        self.intake.shown()
+    }
+
+    /// The events that are shown, in order, without a copy.
+    pub fn into_shown(self) -> Vec<Entry>
+        ensures { result.items ≡ self.shown }
+    {
+        self.intake.into_shown()
     }
 
     /// How many events are held, which arrived and aren't shown.
@@ -88,7 +89,7 @@ impl Merger {
         ensures rise { StampsRise (arrived self.now) }
         ensures own { HaveOwnPlaces (arrived self.now) }
     {
-        self.arrivals.held()
+        self.intake.held()
     }
 
     /// The held event before which `k` of them come, by rising stamp, then thread number, then place in the
@@ -103,8 +104,6 @@ impl Merger {
         ensures entry { IfSome result (λ hold. IsHeldAt self.now k hold.entry) }
         ensures missing { IfSome result (λ hold. IsMissing self.now hold.entry hold.missing) }
     {
-        let entry = self.arrivals.held_at(k)?;
-        let missing = self.arrivals.missing(entry);
-        Some(Hold { entry, missing })
+        self.intake.held_at(k)
     }
 }

@@ -113,8 +113,8 @@ fn mergers_agree(
     step: usize,
     batch: usize,
 ) -> Result<(), NoMemory> {
-    let mut merger = Merger::make(alloc, 2, 2)?;
-    let mut plain = PlainMerger::make(alloc, 2, 2)?;
+    let mut merger = Merger::make(alloc, 2, 3)?;
+    let mut plain = PlainMerger::make(alloc, 2, 3)?;
     let mut index = first;
     for i in 0..13 {
         let entry = events[index % 13];
@@ -129,6 +129,22 @@ fn mergers_agree(
     assert_eq!(rt; merger.shown(), plain.shown());
     for k in 0..14 {
         assert_eq!(rt; merger.held(k), plain.held(k));
+    }
+    Ok(())
+}
+
+/// Both mergers give the same answers to the events in all these orders.
+fn mergers_agree_in_all_orders(
+    rt: &impl Abort,
+    alloc: Global,
+    events: &[Entry; 13],
+) -> Result<(), NoMemory> {
+    for first in 0..13 {
+        for step in 1..13 {
+            for batch in [1, 2, 5, 13] {
+                mergers_agree(rt, alloc, events, first, step, batch)?;
+            }
+        }
     }
     Ok(())
 }
@@ -150,12 +166,42 @@ fn the_merger_answers_as_one_that_searches_whole_lists(rt: HostRuntime) -> Resul
         event(3, 1, 0, 1, 1),
         event(2, 4, 1, 9, 7),
     ];
-    for first in 0..13 {
-        for step in 1..13 {
-            for batch in [1, 2, 5, 13] {
-                mergers_agree(&rt, rt.alloc(), &events, first, step, batch)?;
-            }
-        }
-    }
+    mergers_agree_in_all_orders(&rt, rt.alloc(), &events)?;
+    Ok(())
+}
+
+#[test]
+fn events_that_follow_are_shown_among_those_that_waited(rt: HostRuntime) -> Result<(), Fail> {
+    let events = [
+        event(1, 1, 0, 1, 7),
+        event(2, 1, 1, 1, 2),
+        event(0, 1, 2, 1, 2),
+        event(2, 2, 1, 2, 5),
+        event(0, 2, 1, 3, 6),
+        event(0, 4, 2, 2, 9),
+        event(1, 2, 0, 2, 8),
+        event(2, 3, 0, 4, 10),
+        event(0, 3, 0, 3, 9),
+        event(1, 3, 2, 3, 10),
+        event(2, 4, 2, 4, 11),
+        event(0, 5, 1, 4, 11),
+        event(1, 4, 2, 4, 12),
+    ];
+    mergers_agree_in_all_orders(&rt, rt.alloc(), &events)?;
+    Ok(())
+}
+
+#[test]
+fn shown_events_are_kept_without_those_that_follow(rt: HostRuntime) -> Result<(), Fail> {
+    let later = event(1, 1, 0, 1, 3);
+    let sooner = event(2, 1, 1, 1, 2);
+    let follower = event(2, 2, 1, 2, 4);
+    let mut merger = Merger::make(rt.alloc(), 2, 2)?;
+    assert_eq!(rt; merger.offer(later), Ok(()));
+    assert_eq!(rt; merger.offer(sooner), Ok(()));
+    assert_eq!(rt; merger.settle(), 2);
+    assert_eq!(rt; merger.offer(follower), Ok(()));
+    assert_eq!(rt; merger.held_count(), 1);
+    assert_eq!(rt; merger.into_shown().as_slice(), [sooner, later].as_slice());
     Ok(())
 }
