@@ -1,11 +1,11 @@
 -- What stored arrivals keep as an event follows what is shown.
-use Rattle.std.proofs.Common.{◌≡◌, ◌≢◌, ℕ, suc, ◌+◌, ◌-◌, ◌^◌, ◌<◌, ◌≤◌, true, false, cond, ◌==◌, ◌&&◌, nat_lt, nat_le, ⊎_elim, List, [], ◌∷◌, ◌++◌, Option, Some, None, slice_get, slice_set, length, length-append, length-set, Contains, refl, sym, ap, ◌∙◌, subst, arith}
+use Rattle.std.proofs.Common.{◌≡◌, ◌≢◌, ℕ, suc, ◌+◌, ◌-◌, ◌^◌, ◌<◌, ◌≤◌, true, false, nat_lt, nat_le, ⊎_elim, List, [], ◌∷◌, ◌++◌, Option, Some, None, slice_get, slice_set, length, length-append, length-set, Contains, refl, sym, ap, ◌∙◌, subst, arith}
 use Rattle.std.specs.HashMap.{get}
 use Rattle.std.specs.List.{IsDistinct}
 use Rattle.std.specs.Option.{option_or}
 use Rattle.std.specs.Vec.{vec_capacity}
 use Rattle.std.proofs.Common.{eqb, nat_eq}
-use Rattle.std.proofs.lemmas.Bool.{cases_Bool, cond-true, cond-false, eq-eqb, ne_eqb, and_from, and_left, lt-ltb}
+use Rattle.std.proofs.lemmas.Bool.{cases_Bool, cond-true, cond-false, lt-ltb}
 use Rattle.std.proofs.lemmas.Bool.Decides.{nat_tests}
 use Rattle.std.proofs.lemmas.List.Elements.{Contains-append_left, Contains-append_right, Contains-append_cases, Contains-push_cases}
 use Rattle.tm_base.specs.declared.events.Entry.{Entry}
@@ -19,14 +19,14 @@ use Rattle.tm_merge.specs.Places.{at_object, has_predecessors}
 use Rattle.tm_merge.specs.ReadyThreads.{is_listed, ListsAllReady, ListsOnlyReady, KeepsAll}
 use Rattle.tm_merge.specs.Refusals.{range_fault, twice, clash_before, clash_after, clash_at_object, clash, refusal}
 use Rattle.tm_merge.specs.Showing.{IsReady}
-use Rattle.tm_merge.specs.StoredArrivals.{found, occupants, view_of, IsIndexed, IsTail, AreTails, KeepsArrivals}
+use Rattle.tm_merge.specs.StoredArrivals.{found, occupants, view_of, IsIndexed, AreTails, KeepsArrivals}
 use Rattle.tm_merge.proofs.IndexLemmas.{found_last, found_free}
 use Rattle.tm_merge.proofs.KeepsLemmas.{keeps-moved, places, ats}
 use Rattle.tm_merge.proofs.ListLemmas.{element_at, slice_get-set_cases, slice_get-set_other}
-use Rattle.tm_merge.proofs.NumberingLemmas.{count_in, count_in-snoc, found-snoc, exact_owns, none_from, numbered-snoc}
 use Rattle.tm_merge.proofs.PredecessorsLemmas.{predecessors_in}
 use Rattle.tm_merge.proofs.RefusalLemmas.{accepted, direct_cases, rise-snoc}
 use Rattle.tm_merge.proofs.SlotsLemmas.{slot_of}
+use Rattle.tm_merge.proofs.TailsLemmas.{tails-next, numbered-next}
 
 -- no slot is named where none of the line's events is held
 pub bare-free : (l : Line) → IsBare l → (n : ℕ) → slot_at l n ≡ None
@@ -68,49 +68,6 @@ module _ (line number : Entry → ℕ) (lines : List Line) (shown : List Entry) 
         let name = index.named s d there in
         record { own = name.own; there = slice_get-set_other lines (line e) (line d) m (elsewhere s d there) ∙ name.there; slot = name.slot };
   }
-
-  next_is : number e ≡ suc (count_in line number shown (line e))
-  next_is = let count = (tails (line e) l at).count in omega (arith, next, count)
-
-  or_none : (o : Option Entry) → option_or o None ≡ o
-  or_none None = refl
-  or_none (Some x) = refl
-
-  pub tails-follows : AreTails line number (slice_set lines (line e) m) (shown ++ e ∷ [])
-  tails-follows j x at_j = ⊎_elim
-      (λ (here : (j ≡ line e) × (x ≡ m)). subst (λ y. IsTail line number (shown ++ e ∷ []) j y) (sym here.1) (subst (λ i. IsTail line number (shown ++ e ∷ []) i m) (sym here.0) tail))
-      (λ (other : (j ≢ line e) × (slice_get lines j ≡ Some x)).
-      let old = tails j x other.1 in
-      let apart : (line e == j) ≡ false = ne_eqb (line e) j (λ same. other.0 (sym same)) in
-      let more = count_in-snoc line number shown e j in
-      let none = cond-false {A = ℕ} (line e == j) 1 0 apart in
-      let count = old.count in
-      let last : found line number (shown ++ e ∷ []) j x.shown ≡ found line number shown j x.shown =
-      found-snoc line number shown e j x.shown
-      ∙ ap (option_or (found line number shown j x.shown)) (cond-false (line e == j && number e == x.shown) (Some e) None (and_left (line e == j) (number e == x.shown) apart))
-      ∙ or_none (found line number shown j x.shown) in
-      record { count = omega (arith, more, none, count); last = old.last ∙ sym last; fits = old.fits })
-      (slice_get-set_cases lines (line e) j m x at_j)
-    where
-      tail : IsTail line number (shown ++ e ∷ []) (line e) m
-      tail =
-          let here : (line e == line e && number e == number e) ≡ true = and_from (line e == line e) (number e == number e) (eq-eqb (line e) (line e) refl) (eq-eqb (number e) (number e) refl) in
-          let more = count_in-snoc line number shown e (line e) in
-          let one = cond-true {A = ℕ} (line e == line e) 1 0 (eq-eqb (line e) (line e) refl) in
-          let now = shows.shown in
-          let absent : found line number shown (line e) (number e) ≡ None = none_from (found line number shown (line e) (number e)) ((exact_owns line number shown numbered).0 (line e) (number e) ∙ (let is = next_is in grind (arith, nat_tests))) in
-          let last : found line number (shown ++ e ∷ []) (line e) (number e) ≡ Some e =
-          found-snoc line number shown e (line e) (number e)
-          ∙ ap (λ o. option_or o (cond (line e == line e && number e == number e) (Some e) None)) absent
-          ∙ cond-true (line e == line e && number e == number e) (Some e) None here in
-          record {
-            count = (let is = next_is in omega (arith, more, one, now, is));
-            last = shows.last ∙ sym last ∙ ap (found line number (shown ++ e ∷ []) (line e)) (sym now);
-            fits = omega (arith, now, limit);
-          }
-
-  pub numbered-follows : IsNumberedBy line number (shown ++ e ∷ [])
-  numbered-follows = numbered-snoc line number shown e numbered next_is
 
 -- an event that follows isn't refused
 clash_before_none : (o : Option Entry) (e : Entry) → ((a : Entry) → o ≡ Some a → a.stamp < e.stamp) → clash_before o e ≡ None
@@ -209,11 +166,11 @@ module _ (a b : Arrivals) (e : Entry) (all : KeepsAll a) (follows : Follows a e)
         main = omega (arith, keeps.main, ap length threads, length-set a.threads.items e.thread m);
         threads = rw (threads, slot_items) (index-follows (λ d. d.thread) (λ d. d.place) a.threads.items a.shown.items a.slots.items keeps.threads keeps.thread_tails keeps.numbered.threads e l m at_l in_l.bare in_l.next small_place shows_l);
         objects = rw (objects, slot_items) (index-follows (λ d. d.object) (λ d. d.at) a.objects.items a.shown.items a.slots.items keeps.objects keeps.object_tails keeps.numbered.objects e o p at_o in_o.bare in_o.next small_at shows_o);
-        thread_tails = rw (threads, shown) (tails-follows (λ d. d.thread) (λ d. d.place) a.threads.items a.shown.items a.slots.items keeps.threads keeps.thread_tails keeps.numbered.threads e l m at_l in_l.bare in_l.next small_place shows_l);
-        object_tails = rw (objects, shown) (tails-follows (λ d. d.object) (λ d. d.at) a.objects.items a.shown.items a.slots.items keeps.objects keeps.object_tails keeps.numbered.objects e o p at_o in_o.bare in_o.next small_at shows_o);
+        thread_tails = rw (threads, shown) (tails-next (λ d. d.thread) (λ d. d.place) a.threads.items a.shown.items keeps.thread_tails keeps.numbered.threads e l m at_l in_l.next small_place shows_l);
+        object_tails = rw (objects, shown) (tails-next (λ d. d.object) (λ d. d.at) a.objects.items a.shown.items keeps.object_tails keeps.numbered.objects e o p at_o in_o.next small_at shows_o);
         numbered = subst IsNumbered (sym shown) (record {
-          threads = numbered-follows (λ d. d.thread) (λ d. d.place) a.threads.items a.shown.items a.slots.items keeps.threads keeps.thread_tails keeps.numbered.threads e l m at_l in_l.bare in_l.next small_place shows_l;
-          objects = numbered-follows (λ d. d.object) (λ d. d.at) a.objects.items a.shown.items a.slots.items keeps.objects keeps.object_tails keeps.numbered.objects e o p at_o in_o.bare in_o.next small_at shows_o;
+          threads = numbered-next (λ d. d.thread) (λ d. d.place) a.threads.items a.shown.items keeps.thread_tails keeps.numbered.threads e l m at_l in_l.next small_place shows_l;
+          objects = numbered-next (λ d. d.object) (λ d. d.at) a.objects.items a.shown.items keeps.object_tails keeps.numbered.objects e o p at_o in_o.next small_at shows_o;
         });
         rise = λ x y in_x in_y direct. rises x y (had x in_x) (had y in_y) direct;
         count = held ∙ keeps.count ∙ ap (λ ss. length (occupants ss)) (sym slot_items);

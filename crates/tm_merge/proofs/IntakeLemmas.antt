@@ -1,6 +1,6 @@
 -- What an intake keeps: arrivals, of which the first ones are shown.
 use Rattle.std.proofs.Common.{◌≡◌, ℕ, ◌-◌, ◌≤◌, List, [], ◌∷◌, ◌++◌, Option, Result, Ok, Err, length, length-append, length-drop, length-take, take, drop, Contains, refl, sym, ap, ◌∙◌, subst, arith}
-use Rattle.std.specs.Prelude.{OnErr, OnOk}
+use Rattle.std.specs.Prelude.{OnOk}
 use Rattle.std.specs.List.Sorted.{IsPermutation}
 use Rattle.std.proofs.lemmas.List.{append_assoc, append-nil, take-append-drop, take-append-le, drop-append-le}
 use Rattle.std.proofs.lemmas.List.Elements.{Contains-append_left, Contains-append_right}
@@ -221,17 +221,7 @@ module _ (a : Arrivals) (n : ℕ) (all : KeepsAll a) where
       (λ e h. Contains-append_left (take n a.shown.items) (drop n a.shown.items ++ occupants a.slots.items) e h)
       (subst HaveOwnPlaces (sym (arrived_same a n)) (arrived_own a all.keeps))
 
--- what the view of the arrivals says of a part that is shown
-pub part_same : (a b : Arrivals) (n : ℕ) → view_of b ≡ view_of a → partly_shown b n ≡ partly_shown a n
-part_same a b n same =
-    let part : MergerView → MergerView = λ v. record { threads = v.threads; objects = v.objects; shown = take n v.shown; held = drop n v.shown ++ v.held } in
-    ap part same
-
 -- what follows from what holds of one outcome
 pub on_ok : {T E : Type 0} (r : Result T E) {P Q : Type 0} → (P → Q) → OnOk r P → OnOk r Q
 on_ok (Ok x) step h = step h
 on_ok (Err e) step h = tt
-
-pub on_err : {T E : Type 0} (r : Result T E) {P Q : Type 0} → (P → Q) → OnErr r P → OnErr r Q
-on_err (Ok x) step h = tt
-on_err (Err e) step h = step h

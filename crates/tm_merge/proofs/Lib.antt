@@ -5,6 +5,7 @@ pub mod IndexLemmas
 pub mod RefusalLemmas
 pub mod ArrivingLemmas
 pub mod KeepsLemmas
+pub mod TailsLemmas
 pub mod ListingLemmas
 pub mod ReadyLemmas
 pub mod ReadyThreadsLemmas

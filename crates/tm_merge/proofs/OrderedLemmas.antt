@@ -66,6 +66,20 @@ sorted_same n es fs sorted =
     let to_same : IsPermutation es (take n fs ++ drop n fs) = subst (λ ds. IsPermutation es (ds ++ drop n fs)) (sym sorted.first) from_whole in
     subst (IsPermutation es) (take-append-drop n fs) to_same
 
+-- another order makes none ready
+settled_same : (v w : MergerView) → IsPermutation v.shown w.shown → w.held ≡ v.held → IsSettled v → IsSettled w
+settled_same v w same held settled e h = none (has_predecessors w.shown e) refl
+  where
+    none : (t : Bool) → has_predecessors w.shown e ≡ t → t ≡ false
+    none false is = refl
+    none true is =
+        let was = predecessors_in w.shown v.shown e (λ y in_w _. Contains-permutation w.shown v.shown y (IsPermutation-sym v.shown w.shown same) in_w) is in
+        let never = settled e (subst (λ es. Contains es e) held h) in
+        absurd cc
+
+pub settled-sorts : (n : ℕ) (v w : MergerView) → IsSettled v → Sorts n v w → IsSettled w
+settled-sorts n v w settled sorts = settled_same v w (sorted_same n v.shown w.shown sorts.shown) sorts.held settled
+
 module _ (a b : Arrivals) (n : ℕ) (all : KeepsAll a) (settled : IsSettled (view_of a)) (sorted : IsSortedFrom n a.shown.items b.shown.items)
     (threads : b.threads ≡ a.threads) (objects : b.objects ≡ a.objects) (slots : b.slots ≡ a.slots) (held : b.held ≡ a.held) (ready : b.ready ≡ a.ready) (capacity : vec_capacity b.shown ≡ vec_capacity a.shown) where
   same_shown : IsPermutation a.shown.items b.shown.items
@@ -114,15 +128,8 @@ module _ (a b : Arrivals) (n : ℕ) (all : KeepsAll a) (settled : IsSettled (vie
         room = (let room = old.room in omega (arith, room, long, held, capacity));
       }
 
-  pub still_settled : IsSettled (view_of b)
-  still_settled e h = none (has_predecessors b.shown.items e) refl
-    where
-      none : (t : Bool) → has_predecessors b.shown.items e ≡ t → t ≡ false
-      none false is = refl
-      none true is =
-          let was = predecessors_in b.shown.items a.shown.items e (λ y in_b _. back y in_b) is in
-          let never = settled e (subst (λ ss. Contains (occupants ss) e) slot_items h) in
-          absurd cc
+  still_settled : IsSettled (view_of b)
+  still_settled = settled_same (view_of a) (view_of b) same_shown (ap (λ ss. occupants ss.items) slots) settled
 
   nothing_ready : (e : Entry) → IsReady (view_of b) e → ⊥
   nothing_ready e is = let never = still_settled e is.held in let now = is.after in cc
@@ -147,17 +154,3 @@ module _ (a b : Arrivals) (n : ℕ) (all : KeepsAll a) (settled : IsSettled (vie
         };
         only = λ t h _. absurd (none_listed t h);
       }
-
--- sorting makes none ready
-pub settled-sorts : (n : ℕ) (v w : MergerView) → IsSettled v → Sorts n v w → IsSettled w
-settled-sorts n v w settled sorts e h = none (has_predecessors w.shown e) refl
-  where
-    same : IsPermutation v.shown w.shown
-    same = sorted_same n v.shown w.shown sorts.shown
-
-    none : (t : Bool) → has_predecessors w.shown e ≡ t → t ≡ false
-    none false is = refl
-    none true is =
-        let was = predecessors_in w.shown v.shown e (λ y in_w _. Contains-permutation w.shown v.shown y (IsPermutation-sym v.shown w.shown same) in_w) is in
-        let never = settled e (subst (λ es. Contains es e) sorts.held h) in
-        absurd cc

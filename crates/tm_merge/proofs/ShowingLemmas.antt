@@ -1,9 +1,8 @@
 -- What stored arrivals keep as an event is shown.
-use Rattle.std.proofs.Common.{◌≡◌, ◌≢◌, ℕ, suc, ◌-◌, ◌<◌, ◌≤◌, true, false, cond, ◌==◌, ◌&&◌, nat_le, ⊎_elim, List, [], ◌∷◌, ◌++◌, Option, Some, None, slice_get, slice_set, length, length-append, length-set, Contains, refl, sym, ap, ◌∙◌, subst, arith}
+use Rattle.std.proofs.Common.{◌≡◌, ◌≢◌, ℕ, suc, ◌-◌, ◌^◌, ◌<◌, ◌≤◌, true, false, nat_le, ⊎_elim, List, [], ◌∷◌, ◌++◌, Option, Some, None, slice_get, slice_set, length, length-append, length-set, Contains, sym, ap, ◌∙◌, subst, arith}
 use Rattle.std.specs.Vec.{vec_capacity}
-use Rattle.std.specs.Option.{option_or}
 use Rattle.std.specs.List.Sorted.{IsPermutation}
-use Rattle.std.proofs.lemmas.Bool.{cases_Bool, cases_eq, eq-eqb, ne_eqb, and_from, and_left, cond-true, cond-false, le-leb, lt-leb, leb-true, leb-false}
+use Rattle.std.proofs.lemmas.Bool.{cases_Bool, cases_eq, cond-true, cond-false, le-leb, lt-leb, leb-true, leb-false}
 use Rattle.std.proofs.lemmas.Option.{slice_get_within}
 use Rattle.std.proofs.lemmas.List.Elements.{Contains-append_left, Contains-append_right, Contains-append_cases, Contains-push_cases}
 use Rattle.std.proofs.lemmas.List.Sorted.{IsPermutation-sym, Contains-permutation, length_permutation}
@@ -15,12 +14,12 @@ use Rattle.tm_merge.specs.MergerViews.{arrived}
 use Rattle.tm_merge.specs.Numbering.{IsNumberedBy, IsNumbered}
 use Rattle.tm_merge.specs.Showing.{IsReady, IsNext, IsSettled, Shows}
 use Rattle.tm_merge.specs.Places.{has_predecessors}
-use Rattle.tm_merge.specs.StoredArrivals.{found, occupants, view_of, IsIndexed, HasSlot, IsNamed, IsTail, AreTails, KeepsArrivals}
-use Rattle.tm_merge.proofs.IndexLemmas.{slot_at-later, shown_free}
+use Rattle.tm_merge.specs.StoredArrivals.{occupants, view_of, IsIndexed, HasSlot, IsNamed, AreTails, KeepsArrivals}
+use Rattle.tm_merge.proofs.IndexLemmas.{slot_at-later}
 use Rattle.tm_merge.proofs.ListLemmas.{slice_get-set_cases, slice_get-set_same, slice_get-set_other}
-use Rattle.tm_merge.proofs.NumberingLemmas.{count_in, count_in-snoc, found-snoc, numbered-snoc}
 use Rattle.tm_merge.proofs.ReadyLemmas.{slot_named}
 use Rattle.tm_merge.proofs.SlotsLemmas.{occupants-free, held_in, slot_of}
+use Rattle.tm_merge.proofs.TailsLemmas.{tails-next, numbered-next}
 
 module _ (line number : Entry → ℕ) (lines : List Line) (shown : List Entry) (slots : List (Option Entry))
     (index : IsIndexed line number lines slots) (tails : AreTails line number lines shown) (numbered : IsNumberedBy line number shown)
@@ -93,52 +92,14 @@ module _ (line number : Entry → ℕ) (lines : List Line) (shown : List Entry) 
           (λ (other : (r ≢ s) × (slice_get slots r ≡ Some (Some d))). named_old r d other.0 other.1)
           (slice_get-set_cases slots s r None (Some d) at_r)
 
-  -- the event has the next number of its line
-  pub next_is : number e ≡ suc (count_in line number shown (line e))
-  next_is = let count = (tails (line e) l at).count in omega (arith, next, count)
-
-  or_none : {A : Type 0} (o : Option A) → option_or o None ≡ o
-  or_none None = refl
-  or_none (Some x) = refl
+  limit : number e < 2 ^ 64
+  limit = (index.known (line e) (number e) s l at own_slot).fits
 
   pub tails-shows : AreTails line number (slice_set lines (line e) m) (shown ++ e ∷ [])
-  tails-shows j x at_j = ⊎_elim
-      (λ (here : (j ≡ line e) × (x ≡ m)). subst (λ y. IsTail line number (shown ++ e ∷ []) j y) (sym here.1) (subst (λ i. IsTail line number (shown ++ e ∷ []) i m) (sym here.0) tail))
-      (λ (other : (j ≢ line e) × (slice_get lines j ≡ Some x)).
-      let old = tails j x other.1 in
-      let apart : (line e == j) ≡ false = ne_eqb (line e) j (λ same. other.0 (sym same)) in
-      let more = count_in-snoc line number shown e j in
-      let none = cond-false {A = ℕ} (line e == j) 1 0 apart in
-      let count = old.count in
-      let last : found line number (shown ++ e ∷ []) j x.shown ≡ found line number shown j x.shown =
-      found-snoc line number shown e j x.shown
-      ∙ ap (option_or (found line number shown j x.shown)) (cond-false (line e == j && number e == x.shown) (Some e) None (and_left (line e == j) (number e == x.shown) apart))
-      ∙ or_none (found line number shown j x.shown) in
-      record { count = omega (arith, more, none, count); last = old.last ∙ sym last; fits = old.fits })
-      (slice_get-set_cases lines (line e) j m x at_j)
-    where
-      tail : IsTail line number (shown ++ e ∷ []) (line e) m
-      tail =
-          let old = tails (line e) l at in
-          let here : (line e == line e && number e == number e) ≡ true = and_from (line e == line e) (number e == number e) (eq-eqb (line e) (line e) refl) (eq-eqb (number e) (number e) refl) in
-          let more = count_in-snoc line number shown e (line e) in
-          let one = cond-true {A = ℕ} (line e == line e) 1 0 (eq-eqb (line e) (line e) refl) in
-          let count = old.count in
-          let now = shows.shown in
-          let free = shown_free line number lines shown slots index tails numbered (line e) (number e) l at (omega (arith, next)) in
-          let last : found line number (shown ++ e ∷ []) (line e) (number e) ≡ Some e =
-          found-snoc line number shown e (line e) (number e)
-          ∙ ap (λ o. option_or o (cond (line e == line e && number e == number e) (Some e) None)) free
-          ∙ cond-true (line e == line e && number e == number e) (Some e) None here in
-          let limit = (index.known (line e) (number e) s l at own_slot).fits in
-          record {
-            count = omega (arith, more, one, count, now, next);
-            last = shows.last ∙ sym last ∙ ap (found line number (shown ++ e ∷ []) (line e)) (sym now);
-            fits = omega (arith, now, limit);
-          }
+  tails-shows = tails-next line number lines shown tails numbered e l m at next limit shows
 
   pub numbered-shows : IsNumberedBy line number (shown ++ e ∷ [])
-  numbered-shows = numbered-snoc line number shown e numbered next_is
+  numbered-shows = numbered-next line number lines shown tails numbered e l m at next limit shows
 
 -- the next event is shown
 module _ (a b : Arrivals) (e : Entry) (keeps : KeepsArrivals a) (s : ℕ) (there : slice_get a.slots.items s ≡ Some (Some e)) (next : IsNext (view_of a) e) (l m o p : Line)

@@ -20,8 +20,9 @@ use std::alloc::Global;
 use tm_base::{Entry, NoMemory};
 
 /// The events that arrived: those that are shown in their order, the others in slots that the lines of
-/// their thread and of their object name. The shown ones have room for all. The threads of which an event is
-/// ready are listed, so that what an event costs doesn't grow with their number.
+/// their thread and of their object name. An event that follows what is shown counts as shown here as soon as
+/// it arrives. The shown ones have room for all. The threads of which an event is ready are listed, so that
+/// what an event costs doesn't grow with their number.
 #[derive(Drop)]
 pub(crate) struct Arrivals {
     threads: Vec<Line>,
