@@ -56,7 +56,7 @@ IsCollecting-joins v e m kept joins order judged =
       whole = λ none long. kept.whole none long ∙ sym len;
     }
 
-All-front : {X : Type 0} (P : X → Type 0) (xs ys : List X) → All P (xs ++ ys) → All P xs
+pub All-front : {X : Type 0} (P : X → Type 0) (xs ys : List X) → All P (xs ++ ys) → All P xs
 All-front P xs ys all k d within = subst P (get_or_append_left xs ys d k within) (all k d (rw length-append (omega arith)))
 
 -- what is shown later follows what was shown

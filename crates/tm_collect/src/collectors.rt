@@ -1,4 +1,4 @@
-ghost use Rattle.std.specs.Prelude.{◌≡◌, length, IfOk, OnErr, OnOk, MatchOption, None};
+ghost use Rattle.std.specs.Prelude.{◌≡◌, ◌≤◌, length, IfOk, OnErr, OnOk, MatchOption, None};
 ghost use Rattle.tm_replay.specs.JointSteps.{IsJointRun};
 ghost use Rattle.tm_collect.specs.Collectors.{IsCollecting, new_collector, shown_of};
 ghost use Rattle.tm_collect.specs.Handing.{Hands, LacksMemory};
@@ -93,6 +93,7 @@ impl<'x> Collector<'x> {
         ensures memory { OnErr result (LacksSpace self.old self.new
             (record { failed = self.old.write_fault; faults = K.fault_count sink.old; written = K.written sink.old })
             (record { failed = self.new.write_fault; faults = K.fault_count sink.new; written = K.written sink.new })) }
+        ensures never_falls { K.fault_count sink.old ≤ K.fault_count sink.new }
     {
         if self.short {
             return Err(NoMemory);
@@ -124,12 +125,21 @@ impl<'x> Collector<'x> {
         &self.merger.shown()[..self.writer.joint.applied() as usize]
     }
 
+    /// The events that were applied, in order, as `shown` has them, without a copy.
+    pub fn into_shown(self) -> Vec<Entry>
+        ensures { result.items ≡ shown_of self.entry }
+    {
+        let applied = self.writer.joint.applied() as usize;
+        let mut shown = self.merger.into_shown();
+        shown.truncate(applied);
+        shown
+    }
+
     /// The joint state that the applied events leave.
     pub fn joint(&self) -> &Joint<'x>
         ensures value { result.now ≡ self.now.joint }
         ensures exercise { result.now.exercise ≡ self.now.exercise }
         ensures run { IsJointRun self.now.exercise (shown_of self.now) result.now.state }
-        ensures exercise { result.now.exercise ≡ self.now.exercise }
         ensures kept { IsCollecting self.now }
     {
         &self.writer.joint

@@ -60,6 +60,7 @@ impl<'x> Writer<'x> {
             (record { failed = self.old.write_fault; faults = K.fault_count sink.old; written = K.written sink.old })
             (record { failed = self.new.write_fault; faults = K.fault_count sink.new; written = K.written sink.new }) stop) }
         ensures exercise { self.new.exercise ≡ self.old.exercise }
+        ensures never_falls { K.fault_count sink.old ≤ K.fault_count sink.new }
     {
         while self.joint.applied() < shown.len() as u64 {
             if let Err(stop) = self.show_next(shown, sink) {
@@ -82,6 +83,7 @@ impl<'x> Writer<'x> {
             (record { failed = self.old.write_fault; faults = K.fault_count sink.old; written = K.written sink.old })
             (record { failed = self.new.write_fault; faults = K.fault_count sink.new; written = K.written sink.new }) stop) }
         ensures exercise { self.new.exercise ≡ self.old.exercise }
+        ensures never_falls { K.fault_count sink.old ≤ K.fault_count sink.new }
     {
         let before = self.joint.applied();
         if before >= MOST_EVENTS {
@@ -108,6 +110,7 @@ impl<'x> Writer<'x> {
             (record { failed = self.new.write_fault; faults = K.fault_count sink.new; written = K.written sink.new }) self.old.row.items }
         ensures joint { self.new.joint ≡ self.old.joint }
         ensures exercise { self.new.exercise ≡ self.old.exercise }
+        ensures never_falls { K.fault_count sink.old ≤ K.fault_count sink.new }
     {
         let bytes = self.row.as_slice();
         if !self.write_fault {

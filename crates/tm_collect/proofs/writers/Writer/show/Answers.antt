@@ -1,5 +1,5 @@
 use Rattle.tm_collect.proofs.AdvancingLemmas.{Shows-join, StopsBy-join}
-use Rattle.std.proofs.Common.{◌≡◌, ◌∙◌, List, subst}
+use Rattle.std.proofs.Common.{◌≡◌, ◌∙◌, List, subst, arith}
 use Rattle.tm_base.specs.declared.events.Entry.{Entry}
 use Rattle.tm_text.specs.Exercises.{ExerciseView}
 use Rattle.tm_joint.specs.Joints.{JointView}
@@ -19,7 +19,7 @@ pub loop-self-preserved : goal.loop-self-preserved
 loop-self-preserved g c =
     let kept = c.loop-self.invariant.0 in
     let same : c.loop-self.self.exercise.now ≡ c.args.self.now.exercise.now = cc in
-    (c.show_next.ensures.exercise ∙ kept, go_on _ _ _ _ _ _ _ _ _ same c.loop-self.invariant.1 c.in_default.ensures.shows)
+    (c.show_next.ensures.exercise ∙ kept, go_on _ _ _ _ _ _ _ _ _ same c.loop-self.invariant.1 c.in_default.ensures.shows, omega (arith, c.loop-self.invariant.2, c.show_next.ensures.never_falls))
 
 pub returns-in-Err-clause-stops : goal.returns-in-Err-clause-stops
 returns-in-Err-clause-stops g c =
