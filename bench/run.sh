@@ -8,6 +8,10 @@
 # The yardstick is awk, which reads the rows of that run and writes each by a write of its own, as the
 # program does. Each time is the best of three. Beside the events and the seconds stands how many times
 # more they are than in the line above: where the two are alike, the time grows as the events do.
+#
+# Where valgrind is there, a second table counts the instructions of the program for each event and for each
+# byte of a text, which come out the same on every machine of one kind, and where python3 is there, a third
+# line says how much memory the longest run takes for each event.
 set -eu
 export LC_ALL=C
 
@@ -36,6 +40,62 @@ exercise() {
             print "end"
         }
     }'
+}
+
+# Writes an exercise of so many threads, each of which makes the calls so often. `%` in an object's name stands
+# for the thread's number divided by 8.
+repeated() {
+    local declared=$1 threads=$2 times=$3
+    shift 3
+    printf '%s\n' "$declared"
+    for thread in $(seq "$threads"); do
+        printf 'thread T%d\nrepeat %d\n' "$thread" "$times"
+        printf '%s\n' "${@//%/$((thread % 8))}"
+        printf 'end\nend\n'
+    done
+}
+
+# Writes a text of a mebibyte at most, with so many lines for each of 64 threads, the last of which isn't ended,
+# so that nothing runs. The other words are what the lines say, in turn.
+unended() {
+    local lines=$1
+    shift
+    awk -v lines="$lines" -v said="$*" 'BEGIN {
+        count = split(said, line, ";")
+        print "sem a 9\nmutex mutex_of_all\nvar counter 0"
+        for (t = 1; t <= 64; t++) {
+            print "thread T" t
+            for (k = 0; k < lines; k++) print line[k % count + 1]
+            if (t < 64) print "end"
+        }
+    }'
+}
+
+# Sets `count` to how many instructions the program takes over the file with these words.
+count_instructions() {
+    local from=$1
+    shift
+    valgrind --tool=callgrind --callgrind-out-file=/dev/null "$program" "$@" \
+        <"$from" >"$room/rows" 2>"$room/said" || true
+    count=$(awk '/Collected/ { print $NF }' "$room/said")
+}
+
+# Prints the line of a run: what it is, how many events it has, and the instructions for each.
+instructions_of_run() {
+    local name=$1
+    shift
+    count_instructions "$room/exercise" run --events 10000 "$@"
+    read -r word events < <(tail -n 1 "$room/rows")
+    [ "$word" = done ] || exit 1
+    awk -v name="$name" -v events="$events" -v count="$count" \
+        'BEGIN { printf "%-52s %8d %8.0f\n", name, events, count / events }'
+}
+
+# Prints the line of a text that is read: what it is, how many bytes it has, and the instructions for each.
+instructions_of_text() {
+    count_instructions "$room/exercise" run
+    awk -v name="$1" -v bytes="$(wc -c <"$room/exercise")" -v count="$count" \
+        'BEGIN { printf "%-52s %8d %8.0f\n", name, bytes, count / bytes }'
 }
 
 # Runs the command three times over the file, into another, and sets `best` to its least microseconds.
@@ -79,3 +139,33 @@ for mutexes in 64 8; do
         events_before=$events took_before=$took
     done
 done
+
+if command -v valgrind >/dev/null; then
+    printf '\n%-52s %8s %8s\n' run events 'instr.'
+    repeated "$(printf 'mutex m%d\n' 0 1 2 3 4 5 6 7)" 64 400 'lock m%' 'unlock m%' >"$room/exercise"
+    instructions_of_run '64 threads on 8 mutexes, schedule 0'
+    instructions_of_run '64 threads on 8 mutexes, schedule 7' --schedule 7
+    repeated 'var x 0' 20 10000 'add x 1' >"$room/exercise"
+    instructions_of_run '20 threads add to a variable'
+    repeated 'var x 0' 64 10000 'add x 1' >"$room/exercise"
+    instructions_of_run '64 threads add to a variable'
+    printf '\n%-52s %8s %8s\n' text bytes 'instr.'
+    unended 1190 'lock mutex_of_all;read counter r0;add counter 1;write counter r0;unlock mutex_of_all;p a;v a' \
+        >"$room/exercise"
+    instructions_of_text 'locks, reads, additions, writes and semaphores'
+    unended 4050 'p a' >"$room/exercise"
+    instructions_of_text 'the shortest lines'
+fi
+
+if command -v python3 >/dev/null; then
+    repeated 'var x 0' 64 10000 'add x 1' >"$room/exercise"
+    python3 - "$program" "$room/exercise" <<'END'
+import resource, subprocess, sys
+
+program, text = sys.argv[1:]
+run = subprocess.run([program, "run", "--events", "10000"], stdin=open(text), stdout=subprocess.PIPE)
+events = int(run.stdout.split()[-1])
+kilobytes = resource.getrusage(resource.RUSAGE_CHILDREN).ru_maxrss
+print(f"\nmemory of the last run: {kilobytes * 1024 / events:.0f} bytes an event")
+END
+fi
