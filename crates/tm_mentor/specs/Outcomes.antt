@@ -6,15 +6,15 @@ use Rattle.tm_base.specs.declared.ends.End.TheVariants.{Done, Stuck, Budget}
 use Rattle.tm_outside.specs.Appending.{AppendsPrefix}
 use Rattle.tm_text.specs.Exercises.{ExerciseView}
 use Rattle.tm_replay.specs.JointStates.{JointState}
-use Rattle.tm_replay.specs.ClosedPrefixes.{HasClosedPrefixes}
+use Rattle.tm_merge.specs.Numbering.{PrefixesAreClosed}
 use Rattle.tm_replay.specs.Ends.{EndsAs}
 use Rattle.tm_replay.specs.JointOrder.{AreOrdered}
 use Rattle.tm_replay.specs.JointSteps.{IsJointRun}
 use Rattle.tm_session.specs.declared.rules.Rules.{Rules}
 use Rattle.tm_session.specs.declared.runs.Finished.{Finished}
-use Rattle.tm_session.specs.Transcripts.{IsAloneText, BeginsAloneText}
-use Rattle.tm_session.specs.Shelves.{AreBooksOf}
-use Rattle.tm_session.specs.Sending.{IsSent}
+use Rattle.tm_collect.specs.Sending.{IsSent}
+use Rattle.tm_session.specs.AloneTexts.{IsAloneText, BeginsAloneText}
+use Rattle.tm_session.specs.Shelves.{AreBooksOf, entries_of}
 use Rattle.tm_mentor.specs.declared.refusals.Refusal.{Refusal}
 use Rattle.tm_mentor.specs.declared.answers.Answer.{Answer}
 use Rattle.tm_mentor.specs.declared.answers.Answer.TheVariants.{Refused, Ran, NoMemory}
@@ -47,7 +47,7 @@ IsWritten end f = (f.write_fault ≡ false) × (f.end ≡ end)
 
 -- The bytes were sent to the sink, or a prefix of them where a write failed.
 abbrev pub Sends : Bool → Output → Output → List ℕ → Type 0
-Sends failed old new bytes = IsSent failed old.faults new.faults old.written new.written bytes
+Sends failed old new bytes = IsSent (record { failed = false; faults = old.faults; written = old.written }) (record { failed = failed; faults = new.faults; written = new.written }) bytes
 
 -- Nothing was run, for the cause that the refusal names. Its line was sent.
 pub record IsRefused (words : List (String Global)) (read read' : Input) (sent sent' : Output) (refusal : Refusal) (failed : Bool) : Type 0 where
@@ -57,8 +57,8 @@ pub record IsRefused (words : List (String Global)) (read read' : Input) (sent s
 -- The exercise that was found ran to its end: its events are those of its alone run under the rules
 -- that the words spell, and a legal run of all objects together, which has ended under the limit of the
 -- rules, with this end and these threads cut; their places and stamps are in order; cut after any of them,
--- they are closed under happened-before, and none stands twice; each object's book has the object's events
--- of these, which are a legal history; and the text of that run was sent.
+-- they are closed under happened-before in all entries of all books, and none stands twice; each object's
+-- book has the object's events of these, which are a legal history; and the text of that run was sent.
 pub record Runs (words : List (String Global)) (read read' : Input) (sent sent' : Output) (f : Finished) : Type 0 where
   pub rules : Rules
   pub exercise : ExerciseView
@@ -67,7 +67,7 @@ pub record Runs (words : List (String Global)) (read read' : Input) (sent sent' 
   pub legal : IsJointRun exercise f.shown joint
   pub ended : EndsAs exercise rules.limit f.shown f.end f.cut
   pub ordered : AreOrdered f.shown
-  pub closed : HasClosedPrefixes f.shown
+  pub closed : PrefixesAreClosed f.shown (entries_of f.books)
   pub books : AreBooksOf exercise f.shown f.books
   pub bytes : List ℕ
   pub text : IsAloneText exercise rules f.shown f.end f.cut bytes

@@ -26,7 +26,7 @@ use Rattle.tm_replay.proofs.SliceLemmas.{slice_get-set_cases}
 use Rattle.tm_replay.proofs.JointStartLemmas.{IsSoundJoint-start, mapped-at}
 use Rattle.tm_replay.proofs.ProjectionsLemmas.{runs-keep}
 use Rattle.tm_session.specs.declared.rules.Rules.{Rules}
-use Rattle.tm_session.specs.RunningStates.{AreWaited}
+use Rattle.tm_session.specs.Turns.{AreWaited}
 use Rattle.tm_session.specs.Turns.{RunState, first_run_state, BeginsAlone, IsAloneRun, KeepsLimit, Moves, Goes, GoesBy, due_by, due_stops}
 use Rattle.tm_session.proofs.ChoicesLemmas.{chosen-runs, runs-known}
 use Rattle.tm_session.proofs.DeterminismLemmas.{keeps-call, keeps-cut}

@@ -10,8 +10,8 @@ use Rattle.std.proofs.lemmas.Option.{slice_get-map, slice_get_within, slice_get-
 use Rattle.tm_base.specs.declared.bars.Bar.{Bar}
 use Rattle.tm_replay.specs.JointStates.{JointState}
 use Rattle.tm_replay.specs.Bars.{bar_of, bars_of, is_runnable, is_over, is_stuck}
-pub use Rattle.tm_replay.proofs.ChoosingLemmas.{find-range, find-range_none}
-use Rattle.tm_session.specs.Choices.{runs_at, is_runnable_bar, next_thread, runnable_threads, picked, chosen_thread, cyclic}
+use Rattle.tm_replay.specs.Choosing.{cyclic, is_runnable_bar, next_thread, runnable_threads, runs_at}
+use Rattle.tm_session.specs.Choices.{picked, chosen_thread}
 
 -- what was found passes
 pub find-passes : {A : Type 0} (p : A → Bool) (xs : List A) (x : A) → find p xs ≡ Some x → p x ≡ true
@@ -163,23 +163,3 @@ some-chosen schedule bars last draw low going free h =
     go : (b : Bool) → (if b then next_thread bars last else picked (runnable_threads bars) draw) ≡ None → list_all (λ c. not (is_runnable c)) bars ≡ true
     go true h = none-runs bars last low h
     go false h = none-runnable bars (picked-none (runnable_threads bars) draw h)
-
--- the same by the element that indexing reads
-pub runs_at-index : (bars : List Bar) (t : ℕ) (d : Bar) → 1 ≤ t → t ≤ length bars → runs_at bars t ≡ is_runnable (get_or bars (t - 1) d)
-runs_at-index bars t d program known = runs_at-bar bars t (get_or bars (t - 1) d) program (slice_get-get_or bars (t - 1) d (omega (arith, program, known)))
-
--- the choice is found in one part of the cycle or in the other
-pub next_thread-first : (bars : List Bar) (last t : ℕ) → find (runs_at bars) (range_with_len (last + 1) (length bars + 1 - (last + 1))) ≡ Some t → next_thread bars last ≡ Some t
-next_thread-first bars last t h =
-    let len : length bars + 1 - (last + 1) ≡ length bars - last = omega arith in
-    find-append (runs_at bars) (range_with_len (last + 1) (length bars - last)) (range_with_len 1 last)
-    ∙ ap (λ o. option_or o (find (runs_at bars) (range_with_len 1 last))) (ap (λ n. find (runs_at bars) (range_with_len (last + 1) n)) (sym len) ∙ h)
-
-pub next_thread-second : (bars : List Bar) (last : ℕ) → find (runs_at bars) (range_with_len (last + 1) (length bars + 1 - (last + 1))) ≡ None
-    → next_thread bars last ≡ find (runs_at bars) (range_with_len 1 (last + 1 - 1))
-next_thread-second bars last h =
-    let len : length bars + 1 - (last + 1) ≡ length bars - last = omega arith in
-    let two : last ≡ last + 1 - 1 = omega arith in
-    find-append (runs_at bars) (range_with_len (last + 1) (length bars - last)) (range_with_len 1 last)
-    ∙ ap (λ o. option_or o (find (runs_at bars) (range_with_len 1 last))) (ap (λ n. find (runs_at bars) (range_with_len (last + 1) n)) (sym len) ∙ h)
-    ∙ ap (λ n. find (runs_at bars) (range_with_len 1 n)) two

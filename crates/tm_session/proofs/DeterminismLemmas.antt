@@ -18,9 +18,10 @@ use Rattle.tm_replay.specs.Bars.{bars_of, is_over}
 use Rattle.tm_replay.specs.SoundStates.{is_main}
 use Rattle.tm_session.specs.declared.rules.Rules.{Rules}
 use Rattle.tm_session.specs.Choices.{chosen_thread}
-use Rattle.tm_session.specs.Seats.{AsksCalls}
+use Rattle.tm_session.specs.NextCalls.{AsksCalls}
 use Rattle.tm_session.specs.Turns.{RunState, first_run_state, BeginsAlone, IsAloneRun, KeepsLimit, Halts, Moves, Goes, GoesBy, due_stops}
-use Rattle.tm_session.proofs.Alike.{turn-alike, same-thread_state, Happens-one}
+use Rattle.tm_replay.proofs.DeterminedStepsLemmas.{Happens-one}
+use Rattle.tm_session.proofs.Alike.{turn-alike, same-thread_state}
 use Rattle.tm_session.proofs.MoveOnLemmas.{chosen, chosen-asks}
 use Rattle.tm_session.proofs.Resting.{over-rests}
 use Rattle.tm_session.proofs.Turning.{IsSoundTurn, turned, first-sound}

@@ -10,8 +10,9 @@ use Rattle.tm_replay.specs.Bars.{bars_of}
 use Rattle.tm_replay.specs.Ends.{end_of, named_of}
 use Rattle.tm_session.specs.declared.rules.Rules.{Rules}
 use Rattle.tm_session.specs.Turns.{RunState}
-use Rattle.tm_session.specs.Transcripts.{Transcript, AddsRow, AreRows, IsAloneText, first_transcript}
-use Rattle.tm_session.proofs.Alike.{Happens-one}
+use Rattle.tm_collect.specs.Transcripts.{Transcript, AddsRow, first_joint, transcript_at}
+use Rattle.tm_session.specs.AloneTexts.{AreRows, IsAloneText}
+use Rattle.tm_replay.proofs.DeterminedStepsLemmas.{Happens-one}
 use Rattle.tm_session.proofs.DeterminismLemmas.{alone-one}
 
 transcript-alike : (p q : Transcript) → p.joint ≡ q.joint → p.count ≡ q.count → p.rows ≡ q.rows → p ≡ q
@@ -44,7 +45,7 @@ text-one x rules es fs end last cut named bytes text formed a b =
     let one = alone-one x rules formed es fs a.turn b.turn a.run b.run in
     let ended : end ≡ last = a.ended ∙ ap (λ (p : RunState). end_of rules.limit p.joint) one.1 ∙ sym b.ended in
     let names : cut ≡ named = a.named ∙ ap (λ (p : RunState). named_of rules.limit p.joint) one.1 ∙ sym b.named in
-    let transcript : a.transcript ≡ b.transcript = pages-one x fs (first_transcript x) a.transcript b.transcript (subst (λ (l : List Entry). AreRows x l a.transcript) one.0 a.rows) b.rows in (
+    let transcript : a.transcript ≡ b.transcript = pages-one x fs (transcript_at (first_joint x) []) a.transcript b.transcript (subst (λ (l : List Entry). AreRows x l a.transcript) one.0 a.rows) b.rows in (
       one.0,
       ended,
       names,

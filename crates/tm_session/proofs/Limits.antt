@@ -6,7 +6,7 @@ use Rattle.tm_base.specs.declared.replies.Reply.{Reply}
 use Rattle.tm_base.specs.declared.asks.Ask.{Ask}
 use Rattle.tm_programs.specs.Programs.{Rest, asked_of, is_stopped, next_ask}
 use Rattle.tm_base.specs.Fits.{is_call}
-use Rattle.tm_session.specs.Seats.{IsWithin}
+use Rattle.tm_session.specs.NextCalls.{IsWithin}
 
 -- a call is within the limit where calls may be made
 pub IsWithin-call : (calls : Bool) (last : Option Reply) (o : Op) → is_call o ≡ true → calls ≡ true → IsWithin calls last o

@@ -1,5 +1,5 @@
 -- What a thread or `main` does next is a joint step.
-use Rattle.std.proofs.Common.{◌≡◌, ℕ, ◌<◌, ◌≤◌, Bool, true, false, length, Option, Some, None, slice_get, refl, ap, sym, ◌∙◌, subst, arith, ne_eqb, eq-eqb}
+use Rattle.std.proofs.Common.{◌≡◌, ℕ, ◌<◌, ◌≤◌, Bool, true, false, length, Option, Some, None, slice_get, refl, ap, sym, ◌∙◌, subst, arith, ne_eqb, eq-eqb, ◌==◌}
 use Rattle.std.proofs.lemmas.Bool.{false≢true}
 use Rattle.tm_base.specs.declared.operations.Op.{Op}
 use Rattle.tm_base.specs.declared.operations.Op.TheVariants as op
@@ -19,12 +19,13 @@ use Rattle.tm_replay.proofs.RunnableThreadsLemmas.{runnable-answered}
 use Rattle.tm_replay.proofs.Soundness.{is_main-phase}
 use Rattle.tm_replay.proofs.Moves.{Does, may-does, asked-called}
 use Rattle.tm_session.specs.declared.next_calls.NextCall.{NextCall}
-use Rattle.tm_session.specs.Seats.{GoesOn, AsksCalls, waits_of}
-use Rattle.tm_session.specs.Scenes.{IsEarly, CanPerform, Performs}
+use Rattle.tm_joint.specs.Readings.{waits_in_phase}
+use Rattle.tm_session.specs.NextCalls.{GoesOn, AsksCalls}
+use Rattle.tm_session.specs.Records.{IsEarly, CanPerform, Performs}
 use Rattle.tm_session.specs.Choices.{chosen_thread}
 use Rattle.tm_session.specs.Turns.{KeepsLimit}
 use Rattle.tm_session.proofs.ChoicesLemmas.{chosen-runs, runs-known}
-use Rattle.tm_session.proofs.Seating.{does-ready}
+use Rattle.tm_session.proofs.TicketsLemmas.{does-ready}
 use Rattle.tm_session.proofs.Showing.{bar_of-seat}
 
 -- an event that was made and may be made is a joint step
@@ -34,13 +35,14 @@ performed x j k t w e p may = record { happens = p.happens; may = may }
 -- the object is there and can answer, and the thread is ready
 pub record ActsAt (j : JointState) (t : ℕ) (s : ThreadState) (w : NextCall) : Type 0 where
   pub answerable : IsAnswerable j t w.object w.op
-  pub ready : IsReady (waits_of s.phase) w.object w.op
+  pub ready : IsReady (waits_in_phase s.phase) w.object w.op
 
-can_perform : (j : JointState) (t : ℕ) (s : ThreadState) (w : NextCall) → IsEarly j → slice_get j.threads t ≡ Some s → ActsAt j t s w → CanPerform j t w
-can_perform j t s w early seat a = record {
+can_perform : (j : JointState) (t : ℕ) (s : ThreadState) (w : NextCall) → IsEarly j → slice_get j.threads t ≡ Some s → is_main s.phase ≡ (t == 0) → ActsAt j t s w → CanPerform j t w
+can_perform j t s w early seat main a = record {
   early = early;
   thread_state = s;
   thread = seat;
+  main = main;
   object_state = a.answerable.object_state;
   object = a.answerable.found;
   answers = a.answerable.answers;
@@ -96,7 +98,7 @@ module _ (x : ExerciseView) (j : JointState) (formed : IsWellFormed x) (sound : 
       }
 
       pub chosen-performs : IsEarly j → CanPerform j t w
-      chosen-performs early = can_perform j t s w early seat chosen-acts
+      chosen-performs early = can_perform j t s w early seat (sound.threads t s seat).main chosen-acts
 
       -- and its event is a joint step, within its limit
       pub chosen-step : (k : JointState) (e : Entry) → Performs j t w e k → (limit : ℕ) → KeepsLimit limit s w.op → (step : JointStep x j e k) × KeepsLimit limit step.happens.thread_state e.op
@@ -135,7 +137,7 @@ module _ (x : ExerciseView) (j : JointState) (formed : IsWellFormed x) (sound : 
             found = object_state.1;
             answers = (refl, running object_state.0 object_state.1 object_state.2);
           };
-          ready = ap waits_of main;
+          ready = ap waits_in_phase main;
         };
       }
     where
@@ -153,7 +155,7 @@ module _ (x : ExerciseView) (j : JointState) (formed : IsWellFormed x) (sound : 
   pub can_halt : (object : ℕ) → IsEarly j → has_waiter (slice_get j.objects object) ≡ true → CanPerform j 0 (record { object = object; op = op.Stop })
   can_halt object early waited =
       let h = halting object waited in
-      can_perform j 0 h.thread_state (record { object = object; op = op.Stop }) early h.thread h.acts
+      can_perform j 0 h.thread_state (record { object = object; op = op.Stop }) early h.thread (sound.threads 0 h.thread_state h.thread).main h.acts
 
   pub halted-step : (k : JointState) (object : ℕ) (e : Entry) → Performs j 0 (record { object = object; op = op.Stop }) e k → JointStep x j e k
   halted-step k object e p =

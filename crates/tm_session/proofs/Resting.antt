@@ -14,7 +14,7 @@ use Rattle.tm_replay.specs.Bars.{bar_of, bar_in, bars_of, waits_in, is_over, is_
 use Rattle.tm_replay.specs.SoundStates.{IsSoundJoint, waits_at}
 use Rattle.tm_replay.proofs.SliceLemmas.{found_at}
 use Rattle.tm_session.specs.declared.rules.Rules.{Rules}
-use Rattle.tm_session.specs.RunningStates.{AreWaited}
+use Rattle.tm_session.specs.Turns.{AreWaited}
 use Rattle.tm_session.specs.Turns.{RunState, Goes, GoesBy, due_stops}
 use Rattle.tm_session.proofs.ChoicesLemmas.{bar-at, chosen-runs, runs-known}
 use Rattle.tm_session.proofs.Showing.{bar_of-seat}

@@ -12,7 +12,7 @@ use Rattle.tm_replay.specs.declared.phases.Phase.TheVariants as phase
 use Rattle.tm_replay.specs.JointStates.{JointState, ThreadState, ObjectState}
 use Rattle.tm_replay.specs.Bars.{bar_of, bar_for, bar_in, bars_of, is_runnable, is_ended, is_over, is_stuck, waits_in, is_some_queued, has_waiter, waited_objects}
 use Rattle.tm_replay.specs.SoundStates.{IsSoundJoint, IsAmong}
-use Rattle.tm_session.specs.RunningStates.{AreWaited}
+use Rattle.tm_session.specs.Turns.{AreWaited}
 use Rattle.tm_session.specs.Turns.{due_by}
 use Rattle.tm_session.proofs.ChoicesLemmas.{bar-at, bars-count}
 
@@ -135,7 +135,7 @@ none-due x j (o ∷ os) sound h = absurd cc
 none-due x j [] sound h = (⊎_elim (λ (stuck : is_stuck (bars_of j) ≡ true). absurd (stuck-waited x j sound stuck (sym (ap (λ b. if b then waited_objects j else []) stuck) ∙ h))) (λ (free : is_stuck (bars_of j) ≡ false). free) (cases_Bool (is_stuck (bars_of j))), refl)
 
 -- an event on one object leaves the waiters of the others
-slice_get-set_other : {A : Type 0} (xs : List A) (i k : ℕ) (v : A) → k ≢ i → slice_get (slice_set xs i v) k ≡ slice_get xs k
+pub slice_get-set_other : {A : Type 0} (xs : List A) (i k : ℕ) (v : A) → k ≢ i → slice_get (slice_set xs i v) k ≡ slice_get xs k
 slice_get-set_other [] i k v ne = refl
 slice_get-set_other (x ∷ xs) zero zero v ne = absurd (ne refl)
 slice_get-set_other (x ∷ xs) zero (suc k) v ne = refl

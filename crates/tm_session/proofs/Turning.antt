@@ -16,26 +16,26 @@ use Rattle.tm_replay.proofs.JointStartLemmas.{IsSoundJoint-start}
 use Rattle.tm_replay.proofs.Soundness.{IsSoundJoint-step}
 use Rattle.tm_replay.proofs.Falling.{work-step}
 use Rattle.tm_replay.proofs.Counted.{IsCounted-step}
-use Rattle.tm_session.specs.declared.turns.Run.{Run}
+use Rattle.tm_session.specs.declared.alone_runs.AloneRun.{AloneRun}
 use Rattle.tm_session.specs.declared.rules.Rules.{Rules}
 use Rattle.tm_session.specs.Choices.{draw_after}
-use Rattle.tm_session.specs.Scenes.{joint_of}
-use Rattle.tm_session.specs.Turns.{RunState, first_run_state, BeginsAlone, Goes, GoesBy, Halts, KeepsLimit, Moves, due_stops}
-use Rattle.tm_session.specs.RunningStates.{run_state_of, MovesOn, Stops, AreWaited}
+use Rattle.tm_session.specs.Turns.{RunState, AreWaited, first_run_state, BeginsAlone, Goes, GoesBy, Halts, KeepsLimit, Moves, due_stops}
+use Rattle.tm_session.specs.AloneRuns.{run_state_at, MovesOn, Stops}
 use Rattle.tm_session.proofs.Stopping.{due-waited, waited-after}
 
 -- a thread that went on, from a run that differs from the old one in its due objects alone
-pub moves : (x : ExerciseView) (rules : Rules) (p : RunState) (mid new : Run) (e : Entry) → joint_of mid.scene ≡ p.joint → mid.last ≡ p.last → mid.draw ≡ p.draw → mid.stops.items ≡ [] → MovesOn x rules mid e new → Moves x rules p e (run_state_of new)
+pub moves : (x : ExerciseView) (rules : Rules) (p : RunState) (mid new : AloneRun) (e : Entry) → mid.collector.joint.state ≡ p.joint → mid.last ≡ p.last → mid.draw ≡ p.draw → mid.stops.items ≡ []
+    → (m : MovesOn x rules mid e new) → Moves x rules p e (run_state_at m.joint new)
 moves x rules p mid new e joint last draw stops m =
-    subst (λ (j : JointState). Moves x rules (record { joint = j; last = p.last; draw = p.draw; stops = p.stops }) e (run_state_of new)) joint
-    (subst (λ (l : ℕ). Moves x rules (record { joint = joint_of mid.scene; last = l; draw = p.draw; stops = p.stops }) e (run_state_of new)) last
+    subst (λ (j : JointState). Moves x rules (record { joint = j; last = p.last; draw = p.draw; stops = p.stops }) e (run_state_at m.joint new)) joint
+    (subst (λ (l : ℕ). Moves x rules (record { joint = mid.collector.joint.state; last = l; draw = p.draw; stops = p.stops }) e (run_state_at m.joint new)) last
     (record { step = m.step; draw = m.draw ∙ ap (draw_after rules.schedule) draw; chosen = m.chosen; limit = m.limit; stops = m.stops ∙ stops; last = m.last }))
 
 -- an object that was stopped, from such a run
-pub halts : (x : ExerciseView) (p : RunState) (mid new : Run) (object : ℕ) (e : Entry) → joint_of mid.scene ≡ p.joint → mid.last ≡ p.last → mid.draw ≡ p.draw → Stops x mid object e new
-    → Halts x p object mid.stops.items e (run_state_of new)
+pub halts : (x : ExerciseView) (p : RunState) (mid new : AloneRun) (object : ℕ) (e : Entry) → mid.collector.joint.state ≡ p.joint → mid.last ≡ p.last → mid.draw ≡ p.draw
+    → (s : Stops x mid object e new) → Halts x p object mid.stops.items e (run_state_at s.joint new)
 halts x p mid new object e joint last draw s =
-    subst (λ (j : JointState). Halts x (record { joint = j; last = p.last; draw = p.draw; stops = p.stops }) object mid.stops.items e (run_state_of new)) joint
+    subst (λ (j : JointState). Halts x (record { joint = j; last = p.last; draw = p.draw; stops = p.stops }) object mid.stops.items e (run_state_at s.joint new)) joint
     (record { step = s.step; stop = s.stop; object = s.object; stops = s.stops; last = s.last ∙ last; draw = s.draw ∙ draw })
 
 -- what holds of a turn of a run

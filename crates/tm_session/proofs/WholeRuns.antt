@@ -9,7 +9,7 @@ use Rattle.tm_replay.specs.Work.{work}
 use Rattle.tm_session.specs.declared.rules.Rules.{Rules}
 use Rattle.tm_session.specs.Turns.{RunState, first_run_state, BeginsAlone, Goes, IsAloneRun}
 use Rattle.tm_session.specs.Determinism.{HasAloneRun}
-use Rattle.tm_session.proofs.NextEvents.{next-event}
+use Rattle.tm_session.proofs.NextTurns.{next-event}
 use Rattle.tm_session.proofs.Turning.{IsSoundTurn, turned, turn-falls, begun-sound}
 
 module _ (x : ExerciseView) (rules : Rules) (formed : IsWellFormed x) where

@@ -1,11 +1,12 @@
 -- What a run has written is a prefix of the text of the whole alone run.
-use Rattle.std.proofs.Common.{◌≡◌, ◌≢◌, ℕ, ◌+◌, Bool, true, false, List, [], ◌∷◌, ◌++◌, length, Option, refl, ap, sym, ◌∙◌, subst, append_assoc, length-append, arith}
+use Rattle.std.proofs.Common.{◌≡◌, ◌≢◌, ℕ, ◌+◌, Bool, true, false, List, [], ◌∷◌, ◌++◌, length, MatchBool, Option, refl, ap, sym, ◌∙◌, subst, append_assoc, length-append, arith}
 use Rattle.std.proofs.lemmas.List.{append-nil}
 use Rattle.tm_base.specs.declared.events.Entry.{Entry}
 use Rattle.tm_base.specs.declared.ends.End.{End}
 use Rattle.tm_base.specs.Runs.{Leads}
-use Rattle.tm_outside.specs.Appending.{AppendsPrefix}
-use Rattle.tm_outside.proofs.AppendingLemmas.{AppendsPrefix-proper, AppendsPrefix-whole}
+use Rattle.tm_outside.specs.Appending.{Appends, AppendsPrefix, AppendsProperPrefix}
+use Rattle.tm_outside.specs.Faults.{next_count}
+use Rattle.tm_outside.proofs.AppendingLemmas.{AppendsPrefix-none, AppendsPrefix-proper, AppendsPrefix-whole}
 use Rattle.tm_laws.proofs.RunsLemmas.{Leads-append}
 use Rattle.tm_text.specs.Exercises.{ExerciseView, IsWellFormed}
 use Rattle.tm_timeline.specs.Rows.{row_of, last_line_of}
@@ -14,12 +15,10 @@ use Rattle.tm_replay.specs.JointSteps.{JointStep}
 use Rattle.tm_replay.specs.Bars.{bars_of}
 use Rattle.tm_replay.specs.Ends.{end_of, named_of}
 use Rattle.tm_session.specs.declared.rules.Rules.{Rules}
-use Rattle.tm_session.specs.declared.sessions.Session.{Session}
 use Rattle.tm_session.specs.Determinism.{HasAloneText}
-use Rattle.tm_session.specs.RunningStates.{run_state_of}
-use Rattle.tm_session.specs.Sending.{IsSent}
-use Rattle.tm_session.specs.Sessions.{IsUnderWay, HasSent}
-use Rattle.tm_session.specs.Transcripts.{Transcript, first_transcript, AddsRow, AreRows, BeginsAloneText}
+use Rattle.tm_collect.specs.Sending.{Outlet, IsSent, Sends}
+use Rattle.tm_collect.specs.Transcripts.{Transcript, AddsRow, first_joint, transcript_at}
+use Rattle.tm_session.specs.AloneTexts.{AreRows, BeginsAloneText}
 use Rattle.tm_session.specs.Turns.{RunState, first_run_state, BeginsAlone}
 use Rattle.tm_session.proofs.Turning.{begun-sound, turns-legal}
 use Rattle.tm_session.proofs.WholeRuns.{begun-ends, begun-whole}
@@ -73,7 +72,7 @@ module _ (x : ExerciseView) (rules : Rules) (formed : IsWellFormed x) where
           ended = refl;
           named = refl;
           transcript = added.transcript;
-          rows = Leads-append (AddsRow x) es rest.events (first_transcript x) t added.transcript rows added.rows;
+          rows = Leads-append (AddsRow x) es rest.events (transcript_at (first_joint x) []) t added.transcript rows added.rows;
           same = added.same;
           text = refl;
         };
@@ -84,7 +83,7 @@ module _ (x : ExerciseView) (rules : Rules) (formed : IsWellFormed x) where
 
   -- before the first event nothing is written
   pub begins-empty : BeginsAloneText x rules []
-  begins-empty = begins-text [] (first_run_state x rules) (first_transcript x) refl refl refl
+  begins-empty = begins-text [] (first_run_state x rules) (transcript_at (first_joint x) []) refl refl refl
 
   pub has-alone_text : HasAloneText x rules
   has-alone_text = record {
@@ -95,16 +94,15 @@ module _ (x : ExerciseView) (rules : Rules) (formed : IsWellFormed x) where
     text = begins-empty.whole;
   }
 
-  -- what was sent begins with a prefix of the bytes
-  IsSent-prefix : (failed : Bool) (before now : ℕ) (old new : Option (List ℕ)) (bytes : List ℕ) → IsSent failed before now old new bytes → AppendsPrefix old new bytes
-  IsSent-prefix true before now old new bytes sent = AppendsPrefix-proper old new bytes sent.1
-  IsSent-prefix false before now old new bytes sent = AppendsPrefix-whole old new bytes sent.1
+-- what was sent is a prefix of the bytes
+pub Sends-prefix : (o p : Outlet) (bytes : List ℕ) → Sends o p bytes → AppendsPrefix o.written p.written bytes
+Sends-prefix o p bytes sent = by_old o.failed sent
+  where
+    by_new : (g : Bool) → MatchBool g ((p.faults ≡ next_count o.faults) × AppendsProperPrefix o.written p.written bytes) ((p.faults ≡ o.faults) × Appends o.written p.written bytes)
+        → AppendsPrefix o.written p.written bytes
+    by_new true h = AppendsPrefix-proper o.written p.written bytes h.1
+    by_new false h = AppendsPrefix-whole o.written p.written bytes h.1
 
-  -- a session under way has written a prefix of the whole run's text
-  pub begun-text : (s : Session) (before now : ℕ) (old new : Option (List ℕ)) → IsUnderWay x rules s → HasSent x s before now old new
-      → (bytes : List ℕ) × BeginsAloneText x rules bytes × AppendsPrefix old new bytes
-  begun-text s before now old new way h = (
-    h.transcript.rows,
-    begins-text s.shown.items (run_state_of s.run) h.transcript way.begins h.rows h.same,
-    IsSent-prefix s.failed before now old new h.transcript.rows h.sent,
-  )
+    by_old : (f : Bool) → MatchBool f (p ≡ o) (IsSent o p bytes) → AppendsPrefix o.written p.written bytes
+    by_old true same = AppendsPrefix-none o.written p.written bytes (ap (λ (q : Outlet). q.written) same)
+    by_old false h = by_new p.failed h

@@ -1,7 +1,7 @@
 -- The thread that moves next, by the bars and the schedule.
 use Rattle.std.specs.Prelude.{ℕ, ◌+◌, ◌*◌, ◌/◌, ◌%◌, ◌^◌, ◌==◌, if◌then◌else◌, List, length, slice_get, Option}
 use Rattle.tm_base.specs.declared.bars.Bar.{Bar}
-pub use Rattle.tm_replay.specs.Choosing.{cyclic, is_runnable_bar, next_thread, runnable_threads, runs_at}
+use Rattle.tm_replay.specs.Choosing.{next_thread, runnable_threads}
 use Rattle.tm_session.specs.declared.choices.TheConstants.{INCREMENT, MULTIPLIER}
 
 -- The number that is drawn after this one: the linear congruential generator of Knuth's MMIX computer, of

@@ -6,7 +6,7 @@ use Rattle.tm_base.specs.Runs.{Leads}
 use Rattle.tm_text.specs.Exercises.{ExerciseView, IsWellFormed}
 use Rattle.tm_session.specs.declared.rules.Rules.{Rules}
 use Rattle.tm_session.specs.Turns.{RunState, BeginsAlone, Goes, IsAloneRun}
-use Rattle.tm_session.specs.Transcripts.{IsAloneText}
+use Rattle.tm_session.specs.AloneTexts.{IsAloneText}
 
 -- The exercise has a whole alone run under the rules.
 pub record HasAloneRun (x : ExerciseView) (rules : Rules) : Type 0 where

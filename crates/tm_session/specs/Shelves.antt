@@ -1,5 +1,5 @@
 -- The books that a run leaves.
-use Rattle.std.specs.Prelude.{◌≡◌, ℕ, List, length, slice_get, Some}
+use Rattle.std.specs.Prelude.{◌≡◌, ℕ, List, length, slice_get, Some, flat_map}
 use Rattle.tm_base.specs.declared.events.Entry.{Entry}
 use Rattle.tm_base.specs.Histories.{IsHistory}
 use Rattle.tm_base.specs.Orders.{of_object}
@@ -23,3 +23,7 @@ pub record IsBookOf (x : ExerciseView) (events : List Entry) (o : ℕ) (b : Book
 pub record AreBooksOf (x : ExerciseView) (events : List Entry) (books : List BookView) : Type 0 where
   pub count : length books ≡ length x.objects
   pub each : (o : ℕ) (b : BookView) → slice_get books o ≡ Some b → IsBookOf x events o b
+
+-- All entries of the books, book after book.
+abbrev pub entries_of : List BookView → List Entry
+entries_of books = flat_map (λ b. b.entries) books

@@ -1,5 +1,6 @@
 -- The alone run of an exercise: one event a turn, under a schedule and a limit of calls per thread.
-use Rattle.std.specs.Prelude.{◌≡◌, ℕ, ◌<◌, ◌≤◌, true, if◌then◌else◌, List, [], ◌∷◌, Some, MatchBool}
+use Rattle.std.specs.Prelude.{◌≡◌, ℕ, ◌<◌, ◌≤◌, true, if◌then◌else◌, List, [], ◌∷◌, Some, MatchBool, slice_get}
+use Rattle.std.specs.List.{AllByRecursion}
 use Rattle.tm_base.specs.declared.operations.Op.{Op}
 use Rattle.tm_base.specs.declared.operations.Op.TheVariants as op
 use Rattle.tm_base.specs.declared.events.Entry.{Entry}
@@ -9,7 +10,7 @@ use Rattle.tm_programs.specs.Programs.{is_stopped}
 use Rattle.tm_replay.specs.JointStates.{JointState, ThreadState, start}
 use Rattle.tm_base.specs.Fits.{is_call}
 use Rattle.tm_replay.specs.JointSteps.{JointStep}
-use Rattle.tm_replay.specs.Bars.{bars_of, is_over, is_stuck, waited_objects}
+use Rattle.tm_replay.specs.Bars.{bars_of, has_waiter, is_over, is_stuck, waited_objects}
 use Rattle.tm_session.specs.declared.rules.Rules.{Rules}
 use Rattle.tm_session.specs.Choices.{chosen_thread, draw_after}
 
@@ -27,6 +28,11 @@ first_run_state x rules = record { joint = start x; last = 0; draw = rules.sched
 -- The rules of a schedule and of a limit of calls.
 abbrev pub rules_of : ℕ → ℕ → Rules
 rules_of schedule limit = record { schedule = schedule; limit = limit }
+
+-- The objects rise, and each has a waiter.
+abbrev pub AreWaited : JointState → List ℕ → Type 0
+AreWaited j [] = Unit {0}
+AreWaited j (o ∷ os) = (has_waiter (slice_get j.objects o) ≡ true) × AllByRecursion (λ p. o < p) os × AreWaited j os
 
 -- What `main` stops next: what it still has to stop, or in a stuck state each object that has a waiter, in
 -- rising number.

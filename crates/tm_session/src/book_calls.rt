@@ -1,26 +1,9 @@
-ghost use Rattle.std.specs.Prelude.{◌≡◌, ◌<◌, ◌≤◌, ◌^◌, IfOk, OnErr, true};
-ghost use Rattle.tm_base.specs.States.{is_pending, is_waiting, queued};
+ghost use Rattle.std.specs.Prelude.{◌≡◌, ◌<◌, ◌≤◌, ◌^◌, IfOk, OnErr};
 ghost use Rattle.tm_book.specs.Books.{CanEnter};
-ghost use Rattle.tm_replay.specs.Bars.{is_some_queued};
-ghost use Rattle.tm_session.specs.Acting.{IsNoted};
+ghost use Rattle.tm_session.specs.Noting.{IsNoted};
 
-use tm_base::{Entry, Machine, NoMemory, Op, Ticket};
+use tm_base::{Entry, NoMemory, Op, Ticket};
 use tm_book::Book;
-
-/// Whether the thread's pending call on the book's object still waits.
-pub fn blocks(book: &Book, thread: u32) -> bool
-    requires { is_pending book.now.machine.state thread ≡ true }
-    ensures { result ≡ is_waiting book.now.machine.state thread }
-{
-    book.machine().poll(thread).is_none()
-}
-
-/// Whether a call on the book's object waits.
-pub fn has_waiter(book: &Book) -> bool
-    ensures { result ≡ is_some_queued (queued book.now.machine.state.kind_state) }
-{
-    book.machine().waiters() > 0
-}
 
 /// Makes the operation's event in the book, by the thread's ticket. What the book owes takes no
 /// memory. Only running out of memory refuses another call, and leaves the ticket as it was.

@@ -1,109 +1,66 @@
-ghost use Rattle.std.specs.Prelude.{◌≡◌, IfOk, OnOk, MatchOption, not, List, [], ◌∷◌, ◌++◌, false};
-ghost use Rattle.std.specs.List.{list_all};
-ghost use Rattle.tm_text.specs.Exercises.{IsWellFormed};
-ghost use Rattle.tm_replay.specs.Bars.{bars_of, is_over, is_runnable, is_stuck};
-ghost use Rattle.tm_session.specs.Scenes.{joint_of, HasKept};
-ghost use Rattle.tm_session.specs.RunningStates.{run_state_of, IsRunning, HaltsAt, MovesOn, Stops};
-ghost use Rattle.tm_session.specs.Turns.{Goes, due_stops, first_run_state};
+ghost use Rattle.std.specs.Prelude.{◌≡◌, IfOk, OnOk, MatchOption, [], ◌∷◌, false};
+ghost use Rattle.tm_replay.specs.Bars.{bars_of, is_over, is_stuck, waited_objects};
+ghost use Rattle.tm_collect.specs.Collectors.{shown_of};
+ghost use Rattle.tm_session.specs.AloneRuns.{run_state_of, GoesOnBy, HaltsAt, IsRunning, Makes, MovesOn, Stops};
+ghost use Rattle.tm_session.specs.Records.{CanPerform, HaveRecorded};
+ghost use Rattle.tm_session.specs.Turns.{due_stops};
 
-use crate::choices::{choose, draw_after, is_runnable};
+use crate::alone_runs::AloneRun;
+use crate::book_calls::enter;
+use crate::choices::{choose, draw_after};
 use crate::next_calls::NextCall;
 use crate::rules::Rules;
-use crate::scenes::Scene;
-use std::alloc::Global;
-use std::collections::VecDeque;
-use tm_base::{Bar, Entry, NoMemory, Op};
-use tm_book::Book;
+use tm_base::{Entry, NoMemory, Op};
 use tm_text::Exercise;
 
-/// A run as far as it has come: all objects and threads, the thread that moved last (0 where none
-/// has), the number that was drawn last (the schedule's own where none was), and the objects that
-/// `main` still has to stop.
-#[derive(Drop)]
-pub struct Run {
-    pub scene: Scene,
-    pub last: u32,
-    pub draw: u64,
-    pub stops: VecDeque<u32>,
-}
-
-impl Run {
-    /// Nothing has happened yet.
-    pub fn make(alloc: Global, exercise: &Exercise, rules: Rules) -> Result<Run, NoMemory>
-        ensures start { IfOk result (λ run. run_state_of run ≡ first_run_state exercise.now rules) }
-        ensures kept { IfOk result (λ run. HasKept [] run.scene) }
-    {
-        Ok(Run {
-            scene: Scene::make(alloc, exercise)?,
-            last: 0,
-            draw: rules.schedule,
-            stops: VecDeque::new(alloc),
-        })
-    }
-
-    /// The books of the objects, in rising number.
-    pub fn into_books(self) -> Vec<Book>
-        ensures { result.items ≡ self.scene.books.items }
-    {
-        self.scene.into_books()
-    }
-
-    /// Makes the run's next event, in a joint state with these bars.
-    pub fn go(
-        &mut self,
-        alloc: Global,
-        exercise: &Exercise,
-        bars: &[Bar],
-        rules: Rules,
-    ) -> Result<Entry, NoMemory>
+impl<'x> AloneRun<'x> {
+    /// Makes the run's next event in its object's book.
+    pub fn go(&mut self, exercise: &Exercise, rules: Rules) -> Result<Entry, NoMemory>
         requires running { IsRunning exercise.now self.old }
-        requires bars { bars.now ≡ bars_of (joint_of self.old.scene) }
-        requires going { is_over bars.now ≡ false }
-        ensures goes { IfOk result (λ e. Goes exercise.now rules (run_state_of self.old) e (run_state_of self.new)) }
-        ensures keeps { (es : List Entry) → HasKept es self.old.scene → IfOk result (λ e. HasKept (es ++ e ∷ []) self.new.scene) }
+        requires going { is_over (bars_of self.old.collector.joint.state) ≡ false }
+        ensures goes { IfOk result (λ e. GoesOnBy exercise.now rules self.old e self.new) }
+        ensures collector { self.new.collector ≡ self.old.collector }
     {
-        match self.due(alloc, exercise, bars)? {
+        match self.due(exercise)? {
             Some(object) => self.halt(exercise, object),
-            None => self.move_on(alloc, exercise, bars, rules),
+            None => self.move_on(exercise, rules),
         }
     }
 
     /// Takes the object that `main` stops next. In a stuck state all that have a waiter are due.
-    fn due(
-        &mut self,
-        alloc: Global,
-        exercise: &Exercise,
-        bars: &[Bar],
-    ) -> Result<Option<u32>, NoMemory>
+    fn due(&mut self, exercise: &Exercise) -> Result<Option<u32>, NoMemory>
         requires running { IsRunning exercise.now self.old }
-        requires bars { bars.now ≡ bars_of (joint_of self.old.scene) }
         ensures due { IfOk result (λ next. MatchOption next
             ((due_stops (run_state_of self.old) ≡ []) × (self.new.stops.items ≡ []))
             (λ object. due_stops (run_state_of self.old) ≡ object ∷ self.new.stops.items)) }
-        ensures scene { self.new.scene ≡ self.old.scene }
+        ensures books { self.new.books ≡ self.old.books }
+        ensures tickets { self.new.tickets ≡ self.old.tickets }
+        ensures collector { self.new.collector ≡ self.old.collector }
         ensures last { self.new.last ≡ self.old.last }
         ensures draw { self.new.draw ≡ self.old.draw }
     {
-        self.refill(alloc, exercise, bars)?;
+        if self.stops.is_empty() && self.collector.joint().stuck() {
+            self.list_waited(exercise)?;
+        }
         Ok(self.stops.pop_front())
     }
 
-    /// Makes the list of objects that are due.
-    fn refill(&mut self, alloc: Global, exercise: &Exercise, bars: &[Bar]) -> Result<(), NoMemory>
+    /// Lists the objects that have a waiter, in rising number, where none was listed.
+    fn list_waited(&mut self, exercise: &Exercise) -> Result<(), NoMemory>
         requires running { IsRunning exercise.now self.old }
-        requires bars { bars.now ≡ bars_of (joint_of self.old.scene) }
-        ensures due { OnOk result (self.new.stops.items ≡ due_stops (run_state_of self.old)) }
-        ensures scene { self.new.scene ≡ self.old.scene }
+        requires none { self.old.stops.items ≡ [] }
+        ensures waited { OnOk result (self.new.stops.items ≡ waited_objects self.old.collector.joint.state) }
+        ensures books { self.new.books ≡ self.old.books }
+        ensures tickets { self.new.tickets ≡ self.old.tickets }
+        ensures collector { self.new.collector ≡ self.old.collector }
         ensures last { self.new.last ≡ self.old.last }
         ensures draw { self.new.draw ≡ self.old.draw }
     {
-        if !self.stops.is_empty() {
-            return Ok(());
+        for object in 0..exercise.objects() {
+            if self.collector.joint().waiters(object) > 0 {
+                self.stops.push_back(object)?;
+            }
         }
-        if !is_stuck(bars) {
-            return Ok(());
-        }
-        self.stops = self.scene.waited(alloc, exercise)?;
         Ok(())
     }
 
@@ -111,11 +68,11 @@ impl Run {
     fn halt(&mut self, exercise: &Exercise, object: u32) -> Result<Entry, NoMemory>
         requires { HaltsAt exercise.now self.old object }
         ensures stops { IfOk result (λ e. Stops exercise.now self.old object e self.new) }
-        ensures keeps { (es : List Entry) → HasKept es self.old.scene → IfOk result (λ e. HasKept (es ++ e ∷ []) self.new.scene) }
+        ensures collector { self.new.collector ≡ self.old.collector }
     {
         // What holds of every exercise is known once it is read.
         let _exercise = exercise;
-        self.scene.perform(
+        self.perform(
             0,
             NextCall {
                 object,
@@ -125,49 +82,35 @@ impl Run {
     }
 
     /// The thread that the schedule chooses goes on.
-    fn move_on(
-        &mut self,
-        alloc: Global,
-        exercise: &Exercise,
-        bars: &[Bar],
-        rules: Rules,
-    ) -> Result<Entry, NoMemory>
+    fn move_on(&mut self, exercise: &Exercise, rules: Rules) -> Result<Entry, NoMemory>
         requires running { IsRunning exercise.now self.old }
-        requires bars { bars.now ≡ bars_of (joint_of self.old.scene) }
-        requires going { is_over bars.now ≡ false }
-        requires free { is_stuck bars.now ≡ false }
+        requires going { is_over (bars_of self.old.collector.joint.state) ≡ false }
+        requires free { is_stuck (bars_of self.old.collector.joint.state) ≡ false }
         ensures moves { IfOk result (λ e. MovesOn exercise.now rules self.old e self.new) }
-        ensures keeps { (es : List Entry) → HasKept es self.old.scene → IfOk result (λ e. HasKept (es ++ e ∷ []) self.new.scene) }
+        ensures collector { self.new.collector ≡ self.old.collector }
     {
+        let joint = self.collector.joint();
         let draw = draw_after(rules.schedule, self.draw);
-        let Some(thread) = choose(alloc, bars, rules.schedule, self.last, draw)? else {
+        let Some(thread) = choose(joint, rules.schedule, self.last, draw) else {
             unreachable!()
         };
-        let own = exercise.own(thread);
-        let next_call = self.scene.seats[thread as usize].next_call(own, rules.limit);
+        let next_call = NextCall::of(joint.seat(thread), exercise.own(thread), rules.limit);
         self.last = thread;
         self.draw = draw;
-        self.scene.perform(thread, next_call)
+        self.perform(thread, next_call)
     }
-}
 
-/// Whether a thread hasn't ended, and none is runnable.
-fn is_stuck(bars: &[Bar]) -> bool
-    ensures { result ≡ is_stuck bars.now }
-{
-    !is_over(bars) && none_runs(bars)
-}
-
-/// Whether no thread is runnable.
-fn none_runs(bars: &[Bar]) -> bool
-    ensures { result ≡ list_all (λ bar. not (is_runnable bar)) bars.now }
-{
-    bars.iter().all(|bar| !is_runnable(*bar))
-}
-
-/// Whether every thread has ended.
-pub fn is_over(bars: &[Bar]) -> bool
-    ensures { result ≡ is_over bars.now }
-{
-    bars.iter().all(|bar| matches!(*bar, Bar::Ended))
+    /// Makes the thread's next event in its object's book. Only running out of memory refuses it.
+    fn perform(&mut self, thread: u32, next_call: NextCall) -> Result<Entry, NoMemory>
+        requires can { CanPerform self.old.collector.joint.state thread next_call }
+        requires recorded { HaveRecorded (shown_of self.old.collector) self.old.collector.joint.state self.old.books.items self.old.tickets.items }
+        ensures makes { IfOk result (λ e. Makes self.old thread next_call e self.new) }
+        ensures collector { self.new.collector ≡ self.old.collector }
+        ensures last { self.new.last ≡ self.old.last }
+        ensures draw { self.new.draw ≡ self.old.draw }
+        ensures stops { self.new.stops ≡ self.old.stops }
+    {
+        let book = &mut self.books[next_call.object as usize];
+        enter(book, &mut self.tickets[thread as usize], next_call.op)
+    }
 }

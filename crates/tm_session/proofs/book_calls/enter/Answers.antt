@@ -1,6 +1,6 @@
 use Rattle.std.proofs.Common.{sym, subst}
 use Rattle.tm_base.specs.declared.operations.Op.{Op}
-use Rattle.tm_session.specs.Acting.{IsNoted}
+use Rattle.tm_session.specs.Noting.{IsNoted}
 use Rattle.tm_session.proofs.book_calls.enter.Goals as goal
 
 pub returns-in-Resume-clause-entered : goal.returns-in-Resume-clause-entered
