@@ -1,8 +1,11 @@
-ghost use Rattle.std.specs.Prelude.{◌≡◌, ◌+◌, ◌≤◌, ◌∷◌, ◌++◌, [], length};
+ghost use Rattle.std.specs.Prelude.{◌≡◌, ◌+◌, ◌≤◌, ◌∷◌, ◌++◌, [], flat_map, length};
 ghost use Rattle.std.specs.Fmt.{decimal, signed_decimal};
+ghost use Rattle.tm_timeline.specs.Words.{bar_letter};
 
+use crate::words::bar_letter;
 use itoa::write_digits;
 use std::marker::Model;
+use tm_base::Bar;
 
 /// How many bytes a row has room for. The longest has 246.
 pub const ROOM: usize = 256;
@@ -66,6 +69,17 @@ impl RowText {
         self.start = start;
     }
 
+    /// Puts the letters of the bars in front.
+    pub fn put_bars(&mut self, bars: &[Bar])
+        requires { length self.old + length bars.now ≤ ROOM }
+        ensures text { self.new ≡ flat_map bar_letter bars.now ++ self.old }
+        ensures len { length self.new ≡ length self.old + length bars.now }
+    {
+        let start = self.start - bars.len();
+        write_letters(&mut self.bytes[start..self.start], bars);
+        self.start = start;
+    }
+
     /// Puts the number in front, in decimal.
     pub fn put_number(&mut self, number: u64)
         requires { length self.old + 20 ≤ ROOM }
@@ -85,5 +99,16 @@ impl RowText {
         if value < 0 {
             self.put_byte(b'-');
         }
+    }
+}
+
+/// Writes the letter of each bar, one beside the other.
+fn write_letters(letters: &mut [u8], bars: &[Bar])
+    requires { length letters.old ≡ length bars.now }
+    ensures letters { letters.new ≡ flat_map bar_letter bars.now }
+    ensures len { length letters.new ≡ length bars.now }
+{
+    for index in 0..bars.len() {
+        letters[index] = bar_letter(bars[index]);
     }
 }

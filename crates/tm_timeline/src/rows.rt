@@ -1,10 +1,9 @@
-ghost use Rattle.std.specs.Prelude.{◌≡◌, ◌≤◌, ◌<◌, ◌+◌, ◌++◌, IfOk, OnErr, OnOk, flat_map, length, vec_capacity, vec_len};
-ghost use Rattle.tm_timeline.specs.Words.{bar_letter};
+ghost use Rattle.std.specs.Prelude.{◌≡◌, ◌≤◌, ◌<◌, ◌+◌, ◌++◌, IfOk, OnErr, OnOk, length, vec_capacity, vec_len};
 ghost use Rattle.tm_timeline.specs.Rows.{event_text, places_text, row_of, NamesThread};
 
 use crate::pieces::{put_detail, put_object, put_operand, put_thread};
 use crate::row_texts::RowText;
-use crate::words::{bar_letter, reply_word};
+use crate::words::reply_word;
 use std::alloc::Global;
 use tm_base::{Bar, Bytes, Entry, NoMemory};
 use tm_text::Exercise;
@@ -66,7 +65,7 @@ fn put_row(text: &mut RowText, exercise: &Exercise, n: u64, entry: &Entry, bars:
     // No exercise has more threads than a row has room for.
     prove!(bars.len() == exercise.threads() as usize);
     text.put(b"]\n");
-    put_bars(text, bars);
+    text.put_bars(bars);
     text.put(b" [");
     put_event(text, exercise, entry);
     text.put_byte(b' ');
@@ -108,18 +107,4 @@ fn put_places(text: &mut RowText, exercise: &Exercise, entry: &Entry)
     text.put_number(entry.place);
     text.put_byte(b'.');
     put_thread(text, exercise, entry.thread);
-}
-
-/// Puts the letters of the bars in front.
-fn put_bars(text: &mut RowText, bars: &[Bar])
-    requires room { length text.old ≤ 2 }
-    requires few { length bars.now ≤ 64 }
-    ensures text { text.new ≡ flat_map bar_letter bars.now ++ text.old }
-    ensures len { length text.new ≡ length text.old + length bars.now }
-{
-    let mut left = bars.len();
-    while left > 0 {
-        left -= 1;
-        text.put_byte(bar_letter(bars[left]));
-    }
 }

@@ -28,15 +28,26 @@ pub fn reply_word(reply: Reply) -> &'static [u8]
 }
 
 /// The letter of a thread's bar.
+///
+/// Each test picks one of two letters, without a branch, so that a loop over bars writes many letters at once.
 pub fn bar_letter(bar: Bar) -> u8
     ensures { bar_letter bar ≡ result ∷ [] }
 {
-    match bar {
-        Bar::Unborn => b'-',
-        Bar::Runs => b'R',
-        Bar::Blocked => b'B',
-        Bar::Granted => b'G',
-        Bar::Ended => b'E',
+    let letter = if matches!(bar, Bar::Runs) { b'R' } else { b'-' };
+    let letter = if matches!(bar, Bar::Blocked) {
+        b'B'
+    } else {
+        letter
+    };
+    let letter = if matches!(bar, Bar::Granted) {
+        b'G'
+    } else {
+        letter
+    };
+    if matches!(bar, Bar::Ended) {
+        b'E'
+    } else {
+        letter
     }
 }
 

@@ -5,8 +5,8 @@ use Rattle.tm_timeline.specs.Words.{bar_letter}
 use Rattle.tm_timeline.specs.Rows.{event_text, line_end}
 use Rattle.tm_timeline.proofs.rows.put_row.Goals as goal
 
-pub put_bars-requires-clause-few : goal.put_bars-requires-clause-few
-put_bars-requires-clause-few c = omega (arith, c.requires.bars, c.threads.ensures.well_formed.few_threads)
+pub put_bars-requires : goal.put_bars-requires
+put_bars-requires c = omega (arith, c.requires.bars, c.threads.ensures.well_formed.few_threads)
 
 pub put-requires-2 : goal.put-requires-2
 put-requires-2 c = omega (arith, c.requires.bars, c.threads.ensures.well_formed.few_threads, c.requires.empty, c.put.ensures.len, c.put_bars.ensures.len)
