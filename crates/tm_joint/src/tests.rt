@@ -120,10 +120,12 @@ fn the_runnable_threads_are_counted_and_found(rt: HostRuntime) -> Result<(), Fai
     let begin = event(2, 1, 2, 1, 1, Op::Begin, Reply::Ok);
     let lock = event(1, 2, 0, 1, 2, Op::Lock, Reply::Ok);
     let wait = event(2, 2, 0, 2, 3, Op::Lock, Reply::Wait);
-    assert_eq!(rt; joint.apply(&BEGIN), Ok(()));
-    assert_eq!(rt; joint.apply(&begin), Ok(()));
-    assert_eq!(rt; joint.apply(&lock), Ok(()));
-    assert_eq!(rt; joint.apply(&wait), Ok(()));
+    for entry in [BEGIN, begin, lock, wait] {
+        assert!(rt; entry.thread <= exercise.threads());
+        assert!(rt; entry.object < exercise.objects());
+        assert!(rt; joint.applied() < 4);
+        assert_eq!(rt; joint.apply(&entry), Ok(()));
+    }
     assert_eq!(rt; joint.runnable_count(), 1);
     assert_eq!(rt; joint.nth_runnable(0), Some(1));
     assert_eq!(rt; joint.nth_runnable(1), None);
