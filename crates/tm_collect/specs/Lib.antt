@@ -6,4 +6,5 @@ pub mod CollectorCodes
 pub mod StoredCollectors
 pub mod Handing
 pub mod Pumping
+pub mod Watching
 pub mod NextEvents

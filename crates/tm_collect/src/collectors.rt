@@ -1,7 +1,9 @@
-ghost use Rattle.std.specs.Prelude.{◌≡◌, ◌≤◌, length, IfOk, OnErr, OnOk, MatchOption, None};
+ghost use Rattle.std.specs.Prelude.{◌≡◌, ◌≤◌, length, map, IfOk, OnErr, OnOk, MatchOption, None};
 ghost use Rattle.tm_replay.specs.JointSteps.{IsJointRun};
 ghost use Rattle.tm_collect.specs.Collectors.{IsCollecting, new_collector, shown_of};
 ghost use Rattle.tm_collect.specs.Handing.{Hands, LacksMemory};
+ghost use Rattle.tm_collect.specs.Watching.{newly_shown};
+ghost use Rattle.tm_watch.specs.Watchers.{told_all};
 ghost use Rattle.tm_collect.specs.Pumping.{Answers, LacksSpace};
 
 use crate::refusals::Refusal;
@@ -13,6 +15,7 @@ use tm_joint::Joint;
 use tm_merge::{Merger, Refused};
 use tm_outside::Sink;
 use tm_text::Exercise;
+use tm_watch::Watcher;
 
 /// The collector of a run. Contracts see the exercise, what arrived and in which order it is shown, the
 /// joint state that the applied events leave, the first refusal, whether a write failed, and whether a
@@ -81,18 +84,24 @@ impl<'x> Collector<'x> {
     }
 
     /// Shows events until none is ready, each time the one with the least stamp, and of equal stamps the one
-    /// with the least thread number; applies them in that order, and writes a row for each, unless a write
-    /// failed. Answers how many were newly shown. It stops before an event that can't happen, whose refusal
+    /// with the least thread number; applies them in that order, tells the watchers of each, and writes
+    /// a row for each, unless a write failed. A watcher that retires leaves the list, and the others keep their order. Answers how many were newly shown. It stops before an event that can't happen, whose refusal
     /// is kept. Where a refusal was kept before it does nothing, and answers 0. After `NoMemory` the first
     /// bytes of the rows of the events that it newly showed are written; each later call does nothing, and
     /// answers `NoMemory`.
-    pub fn pump<K: Sink>(&mut self, sink: &mut K) -> Result<u64, NoMemory>
+    pub fn pump<K: Sink>(
+        &mut self,
+        sink: &mut K,
+        watchers: &mut Vec<Box<dyn Watcher>>,
+    ) -> Result<u64, NoMemory>
         ensures answers { IfOk result (λ n. Answers self.old self.new
             (record { failed = self.old.write_fault; faults = K.fault_count sink.old; written = K.written sink.old })
             (record { failed = self.new.write_fault; faults = K.fault_count sink.new; written = K.written sink.new }) n) }
         ensures memory { OnErr result (LacksSpace self.old self.new
             (record { failed = self.old.write_fault; faults = K.fault_count sink.old; written = K.written sink.old })
             (record { failed = self.new.write_fault; faults = K.fault_count sink.new; written = K.written sink.new })) }
+        ensures watched { map (λ b. watch b) watchers.new.items
+            ≡ told_all (map (λ b. watch b) watchers.old.items) (newly_shown self.old self.new) }
         ensures never_falls { K.fault_count sink.old ≤ K.fault_count sink.new }
     {
         if self.short {
@@ -103,7 +112,7 @@ impl<'x> Collector<'x> {
         }
         self.merger.settle();
         let before = self.writer.joint.applied();
-        match self.writer.show(self.merger.shown(), sink) {
+        match self.writer.show(self.merger.shown(), sink, watchers) {
             Ok(()) => Ok(self.writer.joint.applied() - before),
             Err(Stop::Illegal(illegal)) => {
                 self.refusal = Some(Refusal::Apply(illegal));

@@ -68,10 +68,11 @@ fn events_in_any_order_have_the_rows_of_their_run(rt: HostRuntime) -> Result<(),
     let exercise = read(rt.alloc(), PAIR)?;
     let mut sink = MemorySink::make(rt.alloc(), 200, &[])?;
     let mut collector = Collector::make(rt.alloc(), &exercise)?;
+    let mut watchers = Vec::new(rt.alloc());
     for entry in [A_LOCKS, B_WAITS, B_BEGINS, A_BEGINS] {
         collector.hand(entry)?;
     }
-    assert_eq!(rt; collector.pump(&mut sink)?, 4);
+    assert_eq!(rt; collector.pump(&mut sink, &mut watchers)?, 4);
     assert_eq!(rt; sink.bytes(), ROWS);
     assert_eq!(rt;
         collector.shown(),
@@ -87,10 +88,11 @@ fn after_a_write_fault_events_are_shown_and_not_written(rt: HostRuntime) -> Resu
     let exercise = read(rt.alloc(), PAIR)?;
     let mut sink = MemorySink::make(rt.alloc(), 200, &[2])?;
     let mut collector = Collector::make(rt.alloc(), &exercise)?;
+    let mut watchers = Vec::new(rt.alloc());
     for entry in [A_BEGINS, B_BEGINS, A_LOCKS] {
         collector.hand(entry)?;
     }
-    assert_eq!(rt; collector.pump(&mut sink)?, 3);
+    assert_eq!(rt; collector.pump(&mut sink, &mut watchers)?, 3);
     assert!(rt; collector.write_fault());
     assert_eq!(rt; sink.bytes(), b"1 1 A.1 A.1 begin ok [R-]\n".as_slice());
     Ok(())
@@ -101,11 +103,12 @@ fn a_refusal_is_kept_and_nothing_is_shown_after_it(rt: HostRuntime) -> Result<()
     let exercise = read(rt.alloc(), PAIR)?;
     let mut sink = MemorySink::make(rt.alloc(), 200, &[])?;
     let mut collector = Collector::make(rt.alloc(), &exercise)?;
+    let mut watchers = Vec::new(rt.alloc());
     collector.hand(A_BEGINS)?;
     collector.hand(A_BEGINS)?;
     let twice = Refused::TwicePlace(A_BEGINS, A_BEGINS);
     assert_eq!(rt; collector.refusal(), Some(Refusal::Offer(twice)));
-    assert_eq!(rt; collector.pump(&mut sink)?, 0);
+    assert_eq!(rt; collector.pump(&mut sink, &mut watchers)?, 0);
     Ok(())
 }
 
@@ -114,9 +117,10 @@ fn an_illegal_event_is_refused_when_it_is_shown(rt: HostRuntime) -> Result<(), F
     let exercise = read(rt.alloc(), PAIR)?;
     let mut sink = MemorySink::make(rt.alloc(), 200, &[])?;
     let mut collector = Collector::make(rt.alloc(), &exercise)?;
+    let mut watchers = Vec::new(rt.alloc());
     collector.hand(A_IS_REFUSED)?;
     collector.hand(A_BEGINS)?;
-    assert_eq!(rt; collector.pump(&mut sink)?, 1);
+    assert_eq!(rt; collector.pump(&mut sink, &mut watchers)?, 1);
     let illegal = Illegal {
         entry: A_IS_REFUSED,
         cause: Cause::Reply(Reply::Ok),

@@ -1,7 +1,9 @@
-ghost use Rattle.std.specs.Prelude.{◌≡◌, ◌<◌, ◌≤◌, ◌+◌, ◌^◌, length, slice_get, All, IfErr, IfOk, OnErr, OnOk, false};
+ghost use Rattle.std.specs.Prelude.{◌≡◌, ◌<◌, ◌≤◌, ◌+◌, ◌^◌, length, map, slice_get, All, IfErr, IfOk, OnErr, OnOk, false};
 ghost use Rattle.tm_collect.specs.Advancing.{IsInRange, Shows, StopsBy};
 ghost use Rattle.tm_collect.specs.Sending.{Sends};
 ghost use Rattle.tm_collect.specs.Transcripts.{first_joint};
+ghost use Rattle.tm_collect.specs.Watching.{newly};
+ghost use Rattle.tm_watch.specs.Watchers.{told_all};
 
 use std::alloc::Global;
 use tm_base::{Entry, NoMemory};
@@ -9,6 +11,7 @@ use tm_joint::{Illegal, Joint};
 use tm_outside::{Sink, write_all};
 use tm_text::Exercise;
 use tm_timeline::append_row;
+use tm_watch::{Watcher, tell};
 
 /// The greatest number of events that a replayer takes. No memory holds so many.
 const MOST_EVENTS: u64 = 1 << 62;
@@ -46,9 +49,14 @@ impl<'x> Writer<'x> {
         })
     }
 
-    /// Applies all events of the list that weren't, in order, and writes a row for each, unless a write
-    /// failed. It stops before an event that can't happen, and where memory runs out.
-    pub fn show<K: Sink>(&mut self, shown: &[Entry], sink: &mut K) -> Result<(), Stop>
+    /// Applies all events of the list that weren't, in order, tells the watchers of each, and writes a row for
+    /// each, unless a write failed. It stops before an event that can't happen, and where memory runs out.
+    pub fn show<K: Sink>(
+        &mut self,
+        shown: &[Entry],
+        sink: &mut K,
+        watchers: &mut Vec<Box<dyn Watcher>>,
+    ) -> Result<(), Stop>
         requires exercise { self.old.joint.exercise ≡ self.old.exercise.now }
         requires ranges { All (IsInRange self.old.exercise.now) shown.now }
         requires left { self.old.joint.applied ≤ length shown.now }
@@ -60,18 +68,25 @@ impl<'x> Writer<'x> {
             (record { failed = self.old.write_fault; faults = K.fault_count sink.old; written = K.written sink.old })
             (record { failed = self.new.write_fault; faults = K.fault_count sink.new; written = K.written sink.new }) stop) }
         ensures exercise { self.new.exercise ≡ self.old.exercise }
+        ensures watched { map (λ b. watch b) watchers.new.items
+            ≡ told_all (map (λ b. watch b) watchers.old.items) (newly shown.now self.old.joint.applied self.new.joint.applied) }
         ensures never_falls { K.fault_count sink.old ≤ K.fault_count sink.new }
     {
         while self.joint.applied() < shown.len() as u64 {
-            if let Err(stop) = self.show_next(shown, sink) {
+            if let Err(stop) = self.show_next(shown, sink, watchers) {
                 return Err(stop);
             }
         }
         Ok(())
     }
 
-    /// Applies the next event of the list, and writes its row, unless a write failed.
-    fn show_next<K: Sink>(&mut self, shown: &[Entry], sink: &mut K) -> Result<(), Stop>
+    /// Applies the next event of the list, tells the watchers of it, and writes its row, unless a write failed.
+    fn show_next<K: Sink>(
+        &mut self,
+        shown: &[Entry],
+        sink: &mut K,
+        watchers: &mut Vec<Box<dyn Watcher>>,
+    ) -> Result<(), Stop>
         requires exercise { self.old.joint.exercise ≡ self.old.exercise.now }
         requires ranges { All (IsInRange self.old.exercise.now) shown.now }
         requires left { self.old.joint.applied < length shown.now }
@@ -83,6 +98,9 @@ impl<'x> Writer<'x> {
             (record { failed = self.old.write_fault; faults = K.fault_count sink.old; written = K.written sink.old })
             (record { failed = self.new.write_fault; faults = K.fault_count sink.new; written = K.written sink.new }) stop) }
         ensures exercise { self.new.exercise ≡ self.old.exercise }
+        ensures later { self.old.joint.applied ≤ self.new.joint.applied }
+        ensures watched { map (λ b. watch b) watchers.new.items
+            ≡ told_all (map (λ b. watch b) watchers.old.items) (newly shown.now self.old.joint.applied self.new.joint.applied) }
         ensures never_falls { K.fault_count sink.old ≤ K.fault_count sink.new }
     {
         let before = self.joint.applied();
@@ -93,6 +111,7 @@ impl<'x> Writer<'x> {
         if let Err(illegal) = self.joint.apply(&entry) {
             return Err(Stop::Illegal(illegal));
         }
+        tell(watchers, &entry);
         let number = self.joint.applied();
         let bars = self.joint.bars();
         self.row.clear();

@@ -1,7 +1,7 @@
 -- What an outcome tells, by what happened.
-use Rattle.std.proofs.Common.{ℕ, ◌<◌, ◌≤◌, Bool, true, false, List, [], ◌∷◌, Option, Some, None, lit<, refl, String, ◌≡◌, ◌↔◌, ◌∙◌, ap, sym, arith, inl, inr}
+use Rattle.std.proofs.Common.{ℕ, ◌<◌, ◌≤◌, ◌≢◌, Bool, true, false, List, [], ◌∷◌, Option, Some, None, lit<, refl, String, ◌≡◌, ◌↔◌, ◌∙◌, ap, sym, subst, arith, inl, inr}
 use Rattle.std.specs.List.{Contains}
-use Rattle.std.specs.Option.{IfSome, IsSomeAnd, MatchOption}
+use Rattle.std.specs.Option.{IfNone, IfSome, IsSomeAnd, MatchOption}
 use Rattle.std.specs.declared.alloc.Global.{Global}
 use Rattle.tm_base.specs.declared.ends.End.{End}
 use Rattle.tm_base.specs.declared.ends.End.TheVariants.{Done, Stuck, Budget}
@@ -9,6 +9,7 @@ use Rattle.tm_outside.specs.Appending.{Appends}
 use Rattle.tm_outside.specs.Faults.{next_count, Rose}
 use Rattle.tm_lines.specs.declared.faults.FaultyLine.{FaultyLine}
 use Rattle.tm_lines.specs.TextFaults.{first_fault}
+use Rattle.tm_watch.specs.Watchers.{Watch, told_all}
 use Rattle.tm_text.specs.Exercises.{ExerciseView}
 use Rattle.tm_text.specs.Texts.{IsExercise}
 use Rattle.tm_mentor.specs.declared.refusals.Refusal.{Refusal}
@@ -21,7 +22,7 @@ use Rattle.tm_session.specs.declared.rules.Rules.{Rules}
 use Rattle.tm_mentor.specs.Refusals.{line_of, status_of}
 use Rattle.tm_mentor.specs.Outside.{Input, Output}
 use Rattle.tm_mentor.specs.FoundCommands.{IsCause, IsNoExercise}
-use Rattle.tm_mentor.specs.Outcomes.{Answers, Forgoes, Sends, outcome_of, run_status, statuses, end_status, unless_failed, IsWritten}
+use Rattle.tm_mentor.specs.Outcomes.{Answers, Forgoes, HaveWatched, Sends, outcome_of, run_status, statuses, end_status, unless_failed, IsWritten}
 
 -- every status is one of these
 refused_status_by : (refusal : Refusal) (failed : Bool) → Contains statuses (unless_failed failed (status_of refusal))
@@ -255,3 +256,20 @@ pub ended_by : (a : Answer) → IsEnded (outcome_of a)
 ended_by (Refused refusal failed) = refused_ended refusal failed
 ended_by (Ran f) = refl
 ended_by NoMemory = (4, lit< tt, refl)
+
+-- what watchers were told, by the answer
+pub watched_by : (ws us : List Watch) (a : Answer) (o : Outcome) → o ≡ outcome_of a → HaveWatched ws a us → IfSome o.finished (λ f. us ≡ told_all ws f.shown)
+watched_by ws us a o same h = subst (λ (p : Outcome). IfSome p.finished (λ f. us ≡ told_all ws f.shown)) (sym same) (go a h)
+  where
+    go : (b : Answer) → HaveWatched ws b us → IfSome (outcome_of b).finished (λ f. us ≡ told_all ws f.shown)
+    go (Refused refusal failed) h = tt
+    go (Ran f) h = h
+    go NoMemory h = tt
+
+pub untold_by : (ws us : List Watch) (a : Answer) (o : Outcome) → o ≡ outcome_of a → HaveWatched ws a us → IfNone o.finished (o.status ≢ 9 → us ≡ ws)
+untold_by ws us a o same h = subst (λ (p : Outcome). IfNone p.finished (p.status ≢ 9 → us ≡ ws)) (sym same) (go a h)
+  where
+    go : (b : Answer) → HaveWatched ws b us → IfNone (outcome_of b).finished ((outcome_of b).status ≢ 9 → us ≡ ws)
+    go (Refused refusal failed) h = λ other. h
+    go (Ran f) h = tt
+    go NoMemory h = λ other. absurd (other refl)

@@ -4,6 +4,7 @@ use Rattle.std.specs.declared.alloc.Global.{Global}
 use Rattle.tm_base.specs.declared.ends.End.{End}
 use Rattle.tm_base.specs.declared.ends.End.TheVariants.{Done, Stuck, Budget}
 use Rattle.tm_outside.specs.Appending.{AppendsPrefix}
+use Rattle.tm_watch.specs.Watchers.{Watch, told_all}
 use Rattle.tm_text.specs.Exercises.{ExerciseView}
 use Rattle.tm_replay.specs.JointStates.{JointState}
 use Rattle.tm_merge.specs.Numbering.{PrefixesAreClosed}
@@ -98,6 +99,13 @@ abbrev pub Answers : List (String Global) → Input → Input → Output → Out
 Answers words read read' sent sent' (Refused refusal failed) = IsRefused words read read' sent sent' refusal failed
 Answers words read read' sent sent' (Ran f) = Runs words read read' sent sent' f
 Answers words read read' sent sent' NoMemory = Forgoes words read read' sent sent'
+
+-- What contracts see of watchers then, by the answer: after a run those that were told of all its events and retired
+-- at none; where nothing was run they are as before; where memory ran out nothing is said.
+abbrev pub HaveWatched : List Watch → Answer → List Watch → Type 0
+HaveWatched ws (Refused refusal failed) us = us ≡ ws
+HaveWatched ws (Ran f) us = us ≡ told_all ws f.shown
+HaveWatched ws NoMemory us = Unit {0}
 
 -- The answer in a status and a run.
 abbrev pub outcome_of : Answer → Outcome

@@ -15,6 +15,7 @@ use std::io::ErrorKind;
 use std::process::ExitCode;
 use tm_base::NoMemory;
 use tm_outside::{Sink, Source};
+use tm_watch::Watcher;
 
 /// Does what a process's arguments say, as `std::env::args` hands them out, and answers the status that
 /// the process ends with.
@@ -23,6 +24,7 @@ pub fn run_process<S: Source, K: Sink>(
     arguments: io::Result<Args>,
     source: &mut S,
     sink: &mut K,
+    watchers: &mut Vec<Box<dyn Watcher>>,
 ) -> ExitCode
     ensures { EndsProcess (words_of arguments)
         (input_of S.left S.fault_count source.old) (input_of S.left S.fault_count source.new)
@@ -30,7 +32,7 @@ pub fn run_process<S: Source, K: Sink>(
         (exit_status result) }
 {
     match command_words(alloc, arguments) {
-        Ok(words) => exit_code(Ok(mentor_alone(alloc, words.as_slice(), source, sink))),
+        Ok(words) => exit_code(Ok(mentor_alone(alloc, words.as_slice(), source, sink, watchers))),
         Err(NoMemory) => exit_code(Err(NoMemory)),
     }
 }

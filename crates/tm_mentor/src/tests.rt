@@ -7,6 +7,7 @@ use std::process::ExitCode;
 use std::test::Fail;
 use tm_base::{End, NoMemory};
 use tm_outside::{MemorySink, MemorySource};
+use tm_watch::{FirstStop, Tally, Watcher};
 
 /// Two threads that take one mutex in turn.
 const PAIR: &str = "mutex m\nthread A\nlock m\nunlock m\nend\nthread B\nlock m\nunlock m\nend\n";
@@ -89,7 +90,14 @@ pub fn command(
     }
     let mut source = MemorySource::make(alloc, text.as_bytes(), failing_reads)?;
     let mut sink = MemorySink::make(alloc, 4096, failing_writes)?;
-    let outcome = mentor_alone(alloc, spoken.as_slice(), &mut source, &mut sink);
+    let mut watchers = Vec::new(alloc);
+    let outcome = mentor_alone(
+        alloc,
+        spoken.as_slice(),
+        &mut source,
+        &mut sink,
+        &mut watchers,
+    );
     Ok((outcome, sink))
 }
 
@@ -210,7 +218,14 @@ fn a_blank_is_no_digit(rt: HostRuntime) -> Result<(), Fail> {
     }
     let mut source = MemorySource::make(rt.alloc(), IDLE.as_bytes(), &[])?;
     let mut sink = MemorySink::make(rt.alloc(), 4096, &[])?;
-    let outcome = mentor_alone(rt.alloc(), words.as_slice(), &mut source, &mut sink);
+    let mut watchers = Vec::new(rt.alloc());
+    let outcome = mentor_alone(
+        rt.alloc(),
+        words.as_slice(),
+        &mut source,
+        &mut sink,
+        &mut watchers,
+    );
     assert_eq!(rt; outcome.status, 2);
     Ok(())
 }
@@ -326,7 +341,8 @@ fn a_process_ends_with_the_status_of_its_command(rt: HostRuntime) -> Result<(), 
         let given = arguments(rt.alloc(), given)?;
         let mut source = MemorySource::make(rt.alloc(), text.as_bytes(), &[])?;
         let mut sink = MemorySink::make(rt.alloc(), 4096, &[])?;
-        let code = run_process(rt.alloc(), Ok(given), &mut source, &mut sink);
+        let mut watchers = Vec::new(rt.alloc());
+        let code = run_process(rt.alloc(), Ok(given), &mut source, &mut sink, &mut watchers);
         assert_eq!(rt; code, ExitCode::from(status));
         assert_eq!(rt; sink.bytes(), written.as_bytes());
     }
@@ -338,8 +354,43 @@ fn without_memory_for_its_words_a_process_does_nothing(rt: HostRuntime) -> Resul
     let mut source = MemorySource::make(rt.alloc(), PAIR.as_bytes(), &[])?;
     let mut sink = MemorySink::make(rt.alloc(), 4096, &[])?;
     let no_memory = Err(io::Error::from(ErrorKind::OutOfMemory));
-    let code = run_process(rt.alloc(), no_memory, &mut source, &mut sink);
+    let mut watchers = Vec::new(rt.alloc());
+    let code = run_process(rt.alloc(), no_memory, &mut source, &mut sink, &mut watchers);
     assert_eq!(rt; code, ExitCode::from(9));
     assert!(rt; sink.bytes().is_empty());
+    Ok(())
+}
+
+/// Runs the exercise of this text, and tells the watchers of its events.
+fn watched(alloc: Global, text: &str, watchers: &mut Vec<Box<dyn Watcher>>) -> Result<u8, Fail> {
+    let mut words = Vec::new(alloc);
+    words.push(String::from_str(alloc, "run")?)?;
+    let mut source = MemorySource::make(alloc, text.as_bytes(), &[])?;
+    let mut sink = MemorySink::make(alloc, 2000, &[])?;
+    let outcome = mentor_alone(alloc, words.as_slice(), &mut source, &mut sink, watchers);
+    Ok(outcome.status)
+}
+
+#[test]
+fn a_watcher_retires_at_the_first_stop_and_another_sees_all(rt: HostRuntime) -> Result<(), Fail> {
+    let mut watchers: Vec<Box<dyn Watcher>> = Vec::new(rt.alloc());
+    watchers.push(Box::new(rt.alloc(), FirstStop::make())?)?;
+    watchers.push(Box::new(rt.alloc(), Tally::make())?)?;
+    assert_eq!(rt; watched(rt.alloc(), CROSSED, &mut watchers)?, 6);
+    assert_eq!(rt; watchers.len(), 1);
+    let left = watchers.first().ok_or("none is left")?;
+    assert_eq!(rt; left.seen(), 12);
+    Ok(())
+}
+
+#[test]
+fn a_hundred_watchers_see_all_events(rt: HostRuntime) -> Result<(), Fail> {
+    let mut watchers: Vec<Box<dyn Watcher>> = Vec::new(rt.alloc());
+    for _ in 0..100 {
+        watchers.push(Box::new(rt.alloc(), Tally::make())?)?;
+    }
+    assert_eq!(rt; watched(rt.alloc(), PAIR, &mut watchers)?, 0);
+    assert_eq!(rt; watchers.len(), 100);
+    assert!(rt; watchers.iter().all(|watcher| watcher.seen() == 9));
     Ok(())
 }

@@ -1,9 +1,10 @@
-ghost use Rattle.std.specs.Prelude.{◌≡◌, ◌↔◌, ℕ, ◌<◌, ◌≤◌, [], ◌∷◌, List, Contains, IfSome, IsSomeAnd, IfNone, MatchOption};
+ghost use Rattle.std.specs.Prelude.{◌≡◌, ◌≢◌, map, ◌↔◌, ℕ, ◌<◌, ◌≤◌, [], ◌∷◌, List, Contains, IfSome, IsSomeAnd, IfNone, MatchOption};
 ghost use Rattle.tm_base.specs.declared.ends.End.{End};
 ghost use Rattle.tm_outside.specs.Faults.{next_count, Rose};
 ghost use Rattle.tm_outside.specs.Appending.{Appends};
 ghost use Rattle.tm_session.specs.declared.rules.Rules.{Rules};
 ghost use Rattle.tm_text.specs.Exercises.{ExerciseView};
+ghost use Rattle.tm_watch.specs.Watchers.{told_all};
 ghost use Rattle.tm_text.specs.Texts.{IsExercise};
 ghost use Rattle.tm_mentor.specs.declared.refusals.Refusal.{Refusal};
 ghost use Rattle.tm_mentor.specs.CommandLine.{SpellsNoRun, SpellsRun};
@@ -16,18 +17,20 @@ use crate::answers::carry_out;
 use crate::outcomes::Outcome;
 use std::alloc::Global;
 use tm_outside::{Sink, Source};
+use tm_watch::Watcher;
 
 /// Does what the words say, which are those after the program's name. `run` reads an exercise of at
 /// most 2^20 bytes to its end, and writes the rows of its alone run and the last line. Two options
 /// may follow it, each at most once: `--schedule` with a number below 2^64, else 0, and `--events`
-/// with the number of calls that a thread may make, from 1 to 10,000, else 1,000. Where nothing is
-/// run it writes a line that says why, unless memory runs out: `mentor: usage`, `mentor: read fault`, or
+/// with the number of calls that a thread may make, from 1 to 10,000, else 1,000. The watchers are told of
+/// each event of the run. Where nothing is run it writes a line that says why, unless memory runs out: `mentor: usage`, `mentor: read fault`, or
 /// for a text of no exercise its first faulty line and what is wrong with it, as `mentor: line 4: unknown`.
 pub fn mentor_alone<S: Source, K: Sink>(
     alloc: Global,
     words: &[String],
     source: &mut S,
     sink: &mut K,
+    watchers: &mut Vec<Box<dyn Watcher>>,
 ) -> Outcome
     // All that happened: an exercise was run to its end, or nothing was.
     ensures run { IfSome result.finished (Runs words.now
@@ -37,6 +40,11 @@ pub fn mentor_alone<S: Source, K: Sink>(
         (input_of S.left S.fault_count source.old) (input_of S.left S.fault_count source.new)
         (output_of K.written K.fault_count sink.old) (output_of K.written K.fault_count sink.new)
         result.status) }
+
+    // Each watcher that is left was told of all events of the run and retired at none, and the others are gone;
+    // where nothing was run, all are as before, unless memory ran out.
+    ensures watched { IfSome result.finished (λ f. map (λ b. watch b) watchers.new.items ≡ told_all (map (λ b. watch b) watchers.old.items) f.shown) }
+    ensures untold { IfNone result.finished (result.status ≢ 9 → map (λ b. watch b) watchers.new.items ≡ map (λ b. watch b) watchers.old.items) }
 
     // The statuses, of runs and of the rest.
     ensures statuses { Contains statuses result.status }
@@ -87,6 +95,6 @@ pub fn mentor_alone<S: Source, K: Sink>(
     ensures source_never_falls { S.fault_count source.old ≤ S.fault_count source.new }
     ensures sink_never_falls { K.fault_count sink.old ≤ K.fault_count sink.new }
 {
-    let answer = carry_out(alloc, words, source, sink);
+    let answer = carry_out(alloc, words, source, sink, watchers);
     Outcome::of(answer)
 }

@@ -1,6 +1,7 @@
 -- What a run is once the collector has shown its next event.
-use Rattle.std.proofs.Common.{◌≡◌, ℕ, ◌+◌, ◌≤◌, Bool, true, false, List, [], ◌∷◌, ◌++◌, All, length, take, Option, Some, None, MatchOption, refl, ap, sym, ◌∙◌, subst, arith}
-use Rattle.std.proofs.Math.Seq.{take-length}
+use Rattle.std.proofs.Common.{◌≡◌, ℕ, ◌+◌, ◌≤◌, Bool, true, false, List, [], ◌∷◌, ◌++◌, All, length, take, drop, Option, Some, None, MatchOption, refl, ap, sym, ◌∙◌, subst, arith}
+use Rattle.std.proofs.lemmas.List.{length-take-le}
+use Rattle.std.proofs.Math.Seq.{drop-append_seam, take-length}
 use Rattle.tm_base.specs.declared.events.Entry.{Entry}
 use Rattle.tm_base.specs.Runs.{Leads}
 use Rattle.tm_laws.proofs.RunsLemmas.{Leads-snoc}
@@ -16,11 +17,15 @@ use Rattle.tm_merge.specs.Refusals.{refusal}
 use Rattle.tm_merge.specs.declared.refusals.Refused.{Refused}
 use Rattle.tm_collect.specs.declared.refusals.Refusal.{Refusal}
 use Rattle.tm_collect.specs.declared.refusals.Refusal.TheVariants as refusals
-use Rattle.tm_collect.specs.Collectors.{CollectorView, new_collector, shown_of}
+use Rattle.tm_collect.specs.Collectors.{CollectorView, IsCollecting, new_collector, shown_of}
 use Rattle.tm_collect.specs.Advancing.{IsInRange}
 use Rattle.tm_collect.specs.Handing.{Hands, Takes, refused}
 use Rattle.tm_collect.specs.NextEvents.{ShowsAll, ShowsNext, next_row}
 use Rattle.tm_collect.specs.Sending.{Outlet, SendsPrefix}
+use Rattle.tm_collect.specs.Watching.{newly_shown}
+use Rattle.tm_collect.proofs.WatchingLemmas.{told-join}
+use Rattle.tm_joint.specs.Joints.{JointView}
+use Rattle.tm_watch.specs.Watchers.{Watch, told_all}
 use Rattle.tm_collect.specs.Transcripts.{AddsRow, first_joint, transcript_at}
 use Rattle.tm_collect.proofs.CollectingLemmas.{All-front}
 use Rattle.tm_collect.proofs.SendingLemmas.{Sends-join, Sends-none, SendsPrefix-join}
@@ -161,3 +166,25 @@ sent-none x v faults written fresh =
     let outlet : Outlet = record { failed = false; faults = faults; written = written } in
     subst (λ (u : CollectorView). HasSent x u outlet (record { failed = u.write_fault; faults = faults; written = written })) (sym fresh)
     (record { rows = []; transcript = refl; sent = Sends-none outlet })
+
+-- nor does it apply anything
+pub hands-unapplied : (v m : CollectorView) (e : Entry) → Hands v e m → m.joint ≡ v.joint
+hands-unapplied v m e hands = by_kept v.refusal hands
+  where
+    by_offer : (r : Option Refused) → MatchOption r (Takes v e m) (λ r. m ≡ refused v (refusals.Offer r)) → m.joint ≡ v.joint
+    by_offer None takes = takes.joint
+    by_offer (Some r) same = ap (λ (w : CollectorView). w.joint) same
+
+    by_kept : (r : Option Refusal) → MatchOption r ((v.short ≡ false) × MatchOption (refusal v.merger e) (Takes v e m) (λ r. m ≡ refused v (refusals.Offer r))) (λ r. m ≡ v) → m.joint ≡ v.joint
+    by_kept None h = by_offer (refusal v.merger e) h.1
+    by_kept (Some r) same = ap (λ (w : CollectorView). w.joint) same
+
+-- so watchers that were told of all events before are told of the next one
+pub told-next : (v m w : CollectorView) (e : Entry) (ws us vs : List Watch) → IsCollecting v → Hands v e m → shown_of w ≡ shown_of v ++ e ∷ []
+    → us ≡ told_all ws (shown_of v) → vs ≡ told_all us (newly_shown m w) → vs ≡ told_all ws (shown_of w)
+told-next v m w e ws us vs kept hands events before later =
+    let count : length (shown_of v) ≡ v.joint.applied = length-take-le v.joint.applied v.merger.shown kept.within in
+    let news : newly_shown m w ≡ e ∷ [] =
+    ap (λ (j : JointView). drop j.applied (shown_of w)) (hands-unapplied v m e hands) ∙ ap (drop v.joint.applied) events
+    ∙ ap (λ (n : ℕ). drop n (shown_of v ++ e ∷ [])) (sym count) ∙ drop-append_seam (shown_of v) (e ∷ []) in
+    later ∙ ap (told_all us) news ∙ ap (λ (l : List Watch). told_all l (e ∷ [])) before ∙ sym (told-join ws (shown_of v) (e ∷ [])) ∙ ap (told_all ws) (sym events)

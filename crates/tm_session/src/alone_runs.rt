@@ -1,4 +1,4 @@
-ghost use Rattle.std.specs.Prelude.{◌≡◌, ◌≤◌, ◌<◌, length, map, ◌+◌, IfOk, OnErr, OnOk, false};
+ghost use Rattle.std.specs.Prelude.{◌≡◌, ◌≤◌, ◌<◌, length, map, ◌+◌, IfOk, List, OnErr, OnOk, false};
 ghost use Rattle.tm_timeline.specs.Rows.{last_line_of};
 ghost use Rattle.tm_replay.specs.Bars.{bars_of, is_over};
 ghost use Rattle.tm_replay.specs.Ends.{end_of, named_of};
@@ -6,6 +6,7 @@ ghost use Rattle.tm_replay.specs.JointStates.{first_object_state, first_thread_s
 ghost use Rattle.tm_replay.specs.Work.{work};
 ghost use Rattle.tm_collect.specs.Collectors.{new_collector, shown_of};
 ghost use Rattle.tm_collect.specs.Sending.{Outlet, Sends};
+ghost use Rattle.tm_watch.specs.Watchers.{Watch, told_all};
 ghost use Rattle.tm_session.specs.AloneRuns.{HasBegun, HasSent, IsUnderWay};
 ghost use Rattle.tm_session.specs.Noting.{object_state_of};
 ghost use Rattle.tm_session.specs.Records.{AreFresh, AreFirstTickets};
@@ -21,6 +22,7 @@ use tm_collect::Collector;
 use tm_outside::{Sink, write_all};
 use tm_text::Exercise;
 use tm_timeline::last_line;
+use tm_watch::Watcher;
 
 /// An alone run as far as it has come: the books of its objects by number, the tickets of its threads from
 /// `main`, which is thread 0, and the collector, which has shown all its events; the thread that moved last
@@ -71,12 +73,13 @@ impl<'x> AloneRun<'x> {
         self.collector.joint().over()
     }
 
-    /// Makes the next event in its object's book and hands it to the collector, which shows it and writes its
-    /// row, unless a write failed before. Where memory runs out the first bytes of that row are written.
+    /// Makes the next event in its object's book and hands it to the collector, which shows it, tells the
+    /// watchers of it, and writes its row, unless a write failed before. Where memory runs out the first bytes of that row are written.
     pub fn turn<K: Sink>(
         &mut self,
         exercise: &Exercise,
         sink: &mut K,
+        watchers: &mut Vec<Box<dyn Watcher>>,
         rules: Rules,
     ) -> Result<(), NoMemory>
         requires under_way { IsUnderWay exercise.now rules self.old }
@@ -90,11 +93,13 @@ impl<'x> AloneRun<'x> {
         ensures begun { OnErr result ((o : Outlet) → HasSent exercise.now self.old.collector o
             (record { failed = self.old.collector.write_fault; faults = K.fault_count sink.old; written = K.written sink.old })
             → HasBegun exercise.now rules o.written (K.written sink.new)) }
+        ensures watched { OnOk result ((ws : List Watch) → map (λ b. watch b) watchers.old.items ≡ told_all ws (shown_of self.old.collector)
+            → map (λ b. watch b) watchers.new.items ≡ told_all ws (shown_of self.new.collector)) }
         ensures never_falls { K.fault_count sink.old ≤ K.fault_count sink.new }
     {
         let entry = self.go(exercise, rules)?;
         self.collector.hand(entry)?;
-        self.collector.pump(sink)?;
+        self.collector.pump(sink, watchers)?;
         // What holds of every collector is known from this call.
         let _joint = self.collector.joint();
         Ok(())

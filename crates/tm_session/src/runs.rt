@@ -1,4 +1,4 @@
-ghost use Rattle.std.specs.Prelude.{◌≡◌, ◌≤◌, IfOk, OnErr, List, ℕ, false};
+ghost use Rattle.std.specs.Prelude.{◌≡◌, ◌≤◌, IfOk, OnErr, List, map, ℕ, false};
 ghost use Rattle.tm_outside.specs.Appending.{AppendsPrefix};
 ghost use Rattle.tm_replay.specs.JointStates.{JointState};
 ghost use Rattle.tm_merge.specs.Numbering.{PrefixesAreClosed};
@@ -6,6 +6,7 @@ ghost use Rattle.tm_collect.specs.Sending.{IsSent};
 ghost use Rattle.tm_replay.specs.Ends.{EndsAs};
 ghost use Rattle.tm_replay.specs.JointOrder.{AreOrdered};
 ghost use Rattle.tm_replay.specs.JointSteps.{IsJointRun};
+ghost use Rattle.tm_watch.specs.Watchers.{told_all};
 ghost use Rattle.tm_session.specs.AloneTexts.{BeginsAloneText, IsAloneText};
 ghost use Rattle.tm_session.specs.Shelves.{AreBooksOf, entries_of};
 ghost use Rattle.tm_session.specs.Turns.{rules_of};
@@ -17,6 +18,7 @@ use tm_base::{End, Entries, NoMemory, Sequence};
 use tm_book::Book;
 use tm_outside::Sink;
 use tm_text::Exercise;
+use tm_watch::Watcher;
 
 /// A run that ended.
 #[derive(Drop)]
@@ -35,14 +37,16 @@ pub struct Finished {
 
 /// Runs the exercise alone: one event a turn, by the threads in cyclic order under schedule 0, and by a
 /// thread that is drawn under each other one. A thread makes at most `limit` calls, its `begin` and
-/// `end` not counted; the limit is at most `MOST_CALLS`. Writes a row for each event, and the last line. Only running out of memory refuses it,
-/// and then a prefix of this text was written, and not all of it.
+/// `end` not counted; the limit is at most `MOST_CALLS`. Tells the watchers of each event, and writes a row for
+/// each, and the last line. Only running out of memory refuses it, and then a prefix of this text was written, and
+/// not all of it.
 pub fn alone<K: Sink>(
     alloc: Global,
     exercise: &Exercise,
     schedule: u64,
     limit: u32,
     sink: &mut K,
+    watchers: &mut Vec<Box<dyn Watcher>>,
 ) -> Result<Finished, NoMemory>
     requires limit { limit ≤ MOST_CALLS }
     // The events, the end and the named threads are those of the alone run, and its text was written.
@@ -60,6 +64,8 @@ pub fn alone<K: Sink>(
     ensures closed { IfOk result (λ f. PrefixesAreClosed f.shown (entries_of f.books)) }
     // Each object's book has the object's events of these, which are a legal history.
     ensures books { IfOk result (λ f. AreBooksOf exercise.now f.shown f.books) }
+    // Each watcher that is left was told of all of them and retired at none, and the others are gone.
+    ensures watched { IfOk result (λ f. map (λ b. watch b) watchers.new.items ≡ told_all (map (λ b. watch b) watchers.old.items) f.shown) }
     // A prefix of the text of the exercise's alone run was written, and not all of it.
     ensures refused { OnErr result ((bytes : List ℕ) × BeginsAloneText exercise.now (rules_of schedule limit) bytes
         × AppendsPrefix (K.written sink.old) (K.written sink.new) bytes) }
@@ -70,7 +76,7 @@ pub fn alone<K: Sink>(
     let _threads = exercise.threads();
     let mut run = AloneRun::make(alloc, exercise, rules)?;
     while !run.is_over() {
-        run.turn(exercise, sink, rules)?;
+        run.turn(exercise, sink, watchers, rules)?;
     }
     run.finish(alloc, exercise, sink, rules)
 }

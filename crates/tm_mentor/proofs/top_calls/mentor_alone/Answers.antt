@@ -4,7 +4,7 @@ use Rattle.std.specs.Option.{IsSomeAnd}
 use Rattle.tm_mentor.specs.declared.outcomes.Outcome.{Outcome}
 use Rattle.tm_mentor.specs.CommandLine.{SpellsNoRun}
 use Rattle.tm_mentor.specs.Outcomes.{statuses, end_status, outcome_of, IsWritten}
-use Rattle.tm_mentor.proofs.Told.{status_by, usage_by, unspelled_by, no_exercise_by, complete_by, written_by, write_faults_by, no_memory_by, line_by, text_by, IsEnded, ended_by}
+use Rattle.tm_mentor.proofs.Told.{status_by, usage_by, unspelled_by, no_exercise_by, complete_by, written_by, write_faults_by, no_memory_by, line_by, text_by, IsEnded, ended_by, watched_by, untold_by}
 use Rattle.tm_mentor.proofs.top_calls.mentor_alone.Goals as goal
 
 pub returns-clause-statuses : goal.returns-clause-statuses
@@ -67,3 +67,9 @@ returns-clause-text g c =
 
 pub returns-clause-ended : goal.returns-clause-ended
 returns-clause-ended g c = subst IsEnded (sym c.of.ensures) (ended_by c.carry_out-answer.result)
+
+pub returns-clause-watched : goal.returns-clause-watched
+returns-clause-watched g c = watched_by _ _ c.carry_out-answer.result c.of.result c.of.ensures c.carry_out-answer.ensures.watched
+
+pub returns-clause-untold : goal.returns-clause-untold
+returns-clause-untold g c = untold_by _ _ c.carry_out-answer.result c.of.result c.of.ensures c.carry_out-answer.ensures.watched

@@ -13,10 +13,11 @@ use Rattle.tm_replay.specs.JointOrder.{AreOrdered}
 use Rattle.tm_replay.specs.Bars.{bars_of, is_over}
 use Rattle.tm_replay.specs.Ends.{IsEndedRun, EndsAs, end_of, named_of}
 use Rattle.tm_replay.proofs.JointOrderLemmas.{runs-placed, runs-stamped}
-use Rattle.tm_collect.specs.Collectors.{shown_of}
+use Rattle.tm_collect.specs.Collectors.{CollectorView, new_collector, shown_of}
 use Rattle.tm_collect.specs.Sending.{IsSent, Outlet, Sends}
 use Rattle.tm_collect.specs.Transcripts.{transcript_at}
 use Rattle.tm_collect.proofs.SendingLemmas.{Sends-join}
+use Rattle.tm_watch.specs.Watchers.{Watch, told_all}
 use Rattle.tm_session.specs.declared.alone_runs.AloneRun.{AloneRun}
 use Rattle.tm_session.specs.declared.rules.Rules.{Rules}
 use Rattle.tm_session.specs.declared.runs.Finished.{Finished}
@@ -96,10 +97,15 @@ closed-ok : {E : Type 0} (r : Result Finished E) (es : List Entry) (bs : List Bo
 closed-ok (Ok f) es bs shown books p = rw shown (rw books p)
 closed-ok (Err e) es bs shown books p = tt
 
+-- before the first event watchers were told of nothing
+told-nothing : (ws : List Watch) (v : CollectorView) (x : ExerciseView) → v ≡ new_collector x → ws ≡ told_all ws (shown_of v)
+told-nothing ws v x fresh = ap (λ (u : CollectorView). told_all ws (shown_of u)) (sym fresh)
+
 pub loop-run-init : goal.loop-run-init
 loop-run-init g c = record {
   under_way = c.in_ok-run.ensures.under_way;
   sent = sent-none c.args.exercise.now c.in_ok-run.run'.collector _ _ c.in_ok-run.ensures.fresh;
+  watched = told-nothing _ c.in_ok-run.run'.collector c.args.exercise.now c.in_ok-run.ensures.fresh;
   rises = omega arith;
 }
 
@@ -173,3 +179,8 @@ returns-clause-refused g c =
     let begun = begun-so_far x rules s c.loop-run.invariant.under_way _ _ c.loop-run.invariant.sent in
     (begun.0, begun.1, subst (λ (w : Option (List ℕ)). AppendsPrefix (g.K.Sink.written c.args.sink.now) w begun.0) (sym kept) begun.2))
     c.finish.ensures.kept
+
+pub returns-clause-watched : goal.returns-clause-watched
+returns-clause-watched g c =
+    IfOk-weaker c.finish.result (λ f. f.shown ≡ shown_of c.loop-run.run.collector) _
+    (λ f shown. c.loop-run.invariant.watched ∙ ap (told_all _) (sym shown)) c.finish.ensures.shown

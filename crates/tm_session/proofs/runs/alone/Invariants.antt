@@ -1,5 +1,7 @@
-use Rattle.std.proofs.Common.{◌≤◌, false}
+use Rattle.std.proofs.Common.{◌≡◌, ◌≤◌, false, map}
 use Rattle.tm_replay.specs.Work.{work}
+use Rattle.tm_watch.specs.Watchers.{told_all}
+use Rattle.tm_collect.specs.Collectors.{shown_of}
 use Rattle.tm_session.specs.AloneRuns.{IsUnderWay, HasSent}
 use Rattle.tm_session.specs.Turns.{rules_of}
 use Rattle.tm_session.proofs.runs.alone.Given as goal
@@ -10,6 +12,8 @@ invariant-loop-run g l = record {
   sent : HasSent l.exercise l.run.collector
       (record { failed = false; faults = g.K.Sink.fault_count l.initial.sink; written = g.K.Sink.written l.initial.sink })
       (record { failed = l.run.collector.write_fault; faults = g.K.Sink.fault_count l.sink; written = g.K.Sink.written l.sink });
+  watched : map (λ b. (goal.Watcher-dyn g (b.vtable, b.value)).watch b.value) l.watchers.items
+      ≡ told_all (map (λ b. (goal.Watcher-dyn g (b.vtable, b.value)).watch b.value) l.initial.watchers.items) (shown_of l.run.collector);
   rises : g.K.Sink.fault_count l.initial.sink ≤ g.K.Sink.fault_count l.sink;
 }
 

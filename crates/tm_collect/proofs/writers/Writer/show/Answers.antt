@@ -6,6 +6,7 @@ use Rattle.tm_joint.specs.Joints.{JointView}
 use Rattle.tm_collect.specs.declared.writers.Stop.{Stop}
 use Rattle.tm_collect.specs.Sending.{Outlet}
 use Rattle.tm_collect.specs.Advancing.{Shows, StopsBy}
+use Rattle.tm_collect.proofs.WatchingLemmas.{told-more, told-none}
 use Rattle.tm_collect.proofs.writers.Writer.show.Goals as goal
 
 module _ (x y : ExerciseView) (es : List Entry) (u v w : JointView) (o p q : Outlet) (same : y ≡ x) (so_far : Shows x es u v o p) where
@@ -17,12 +18,23 @@ module _ (x y : ExerciseView) (es : List Entry) (u v w : JointView) (o p q : Out
 
 pub loop-self-preserved : goal.loop-self-preserved
 loop-self-preserved g c =
-    let kept = c.loop-self.invariant.0 in
-    let same : c.loop-self.self.exercise.now ≡ c.args.self.now.exercise.now = cc in
-    (c.show_next.ensures.exercise ∙ kept, go_on _ _ _ _ _ _ _ _ _ same c.loop-self.invariant.1 c.in_default.ensures.shows, omega (arith, c.loop-self.invariant.2, c.show_next.ensures.never_falls))
+    let old = c.loop-self.invariant in
+    let same : c.loop-self.self.exercise.now ≡ c.args.self.now.exercise.now = let kept = old.exercise in cc in
+    record {
+      exercise = c.show_next.ensures.exercise ∙ old.exercise;
+      shows = go_on _ _ _ _ _ _ _ _ _ same old.shows c.in_default.ensures.shows;
+      rises = omega (arith, old.rises, c.show_next.ensures.never_falls);
+      later = omega (arith, old.later, c.show_next.ensures.later);
+      watched = told-more _ _ _ c.args.shown.now _ _ _ old.later c.show_next.ensures.later old.watched c.show_next.ensures.watched;
+    }
 
 pub returns-in-Err-clause-stops : goal.returns-in-Err-clause-stops
 returns-in-Err-clause-stops g c =
-    let kept = c.loop-self.invariant.0 in
-    let same : c.loop-self.self.exercise.now ≡ c.args.self.now.exercise.now = cc in
-    stop_by _ _ _ _ _ _ _ _ _ same c.loop-self.invariant.1 c.in-Err.stop c.in-Err.ensures.stops
+    let old = c.loop-self.invariant in
+    let same : c.loop-self.self.exercise.now ≡ c.args.self.now.exercise.now = let kept = old.exercise in cc in
+    stop_by _ _ _ _ _ _ _ _ _ same old.shows c.in-Err.stop c.in-Err.ensures.stops
+
+pub returns-in-Err-clause-watched : goal.returns-in-Err-clause-watched
+returns-in-Err-clause-watched g c =
+    let old = c.loop-self.invariant in
+    told-more _ _ _ c.args.shown.now _ _ _ old.later c.show_next.ensures.later old.watched c.in-Err.ensures.watched

@@ -11,7 +11,7 @@ use Rattle.tm_collect.proofs.NextEventsLemmas.{next-shown, next-begun}
 use Rattle.tm_session.specs.declared.alone_runs.AloneRun.{AloneRun}
 use Rattle.tm_session.specs.declared.rules.Rules.{Rules}
 use Rattle.tm_session.specs.AloneRuns.{GoesOnBy, HasBegun, HasSent, IsUnderWay}
-use Rattle.tm_session.proofs.ShownLemmas.{begun-next, begun-so_far, falls-next, formed, hands-unwritten, own-step, sent-next, sound_turn, under_way-next}
+use Rattle.tm_session.proofs.ShownLemmas.{begun-next, begun-so_far, falls-next, formed, hands-unwritten, own-step, sent-next, sound_turn, told-next, under_way-next}
 use Rattle.tm_session.proofs.alone_runs.AloneRun.turn.Goals as goal
 
 pub go-requires-clause-running : goal.go-requires-clause-running
@@ -97,3 +97,13 @@ pub returns-clause-sent : goal.returns-clause-sent
 returns-clause-sent g c =
     sent c.args.exercise.now c.args.rules c.args.self.now c.go.new.self c.hand.new.self c.in_ok-entry.entry c.requires.under_way c.in_ok-entry.ensures.goes c.in_ok-entry.ensures.collector
     c.in_ok-hand.ensures.hands c.pump.new.self _ _ _ c.in_ok-pump.field-0 c.joint-joint.ensures.kept c.in_ok-pump.ensures.answers
+
+pub returns-clause-watched : goal.returns-clause-watched
+returns-clause-watched g c ws before =
+    let x = c.args.exercise.now in
+    let goes = c.in_ok-entry.ensures.goes in
+    let way = c.requires.under_way in
+    let next = shown x c.args.rules c.args.self.now c.go.new.self c.hand.new.self c.in_ok-entry.entry way goes c.in_ok-entry.ensures.collector c.in_ok-hand.ensures.hands
+    c.pump.new.self _ _ c.in_ok-pump.field-0 c.joint-joint.ensures.kept c.in_ok-pump.ensures.answers in
+    told-next c.args.self.now.collector c.hand.new.self c.pump.new.self c.in_ok-entry.entry ws _ _ way.shows.collecting
+    (handed x c.args.rules c.args.self.now c.go.new.self c.hand.new.self c.in_ok-entry.entry way goes c.in_ok-entry.ensures.collector c.in_ok-hand.ensures.hands) next.events before c.pump.ensures.watched
