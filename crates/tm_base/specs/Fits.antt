@@ -52,3 +52,8 @@ is_call (op.End cut) = false
 is_call op.Resume = false
 is_call op.Stop = false
 is_call o = true
+
+-- The operation is a `stop`.
+abbrev pub is_stop : Op → Bool
+is_stop op.Stop = true
+is_stop o = false

@@ -21,3 +21,5 @@ pub mod Orders
 pub mod Names
 pub mod StoredNames
 pub mod Tickets
+pub mod Counters
+pub mod Draws

@@ -1,6 +1,6 @@
 -- The orders of events: places, happened-before and stamps (Lamport, CACM 1978), and the prefixes that
 -- are closed under happened-before, which are consistent cuts.
-use Rattle.std.specs.Prelude.{◌≡◌, ℕ, suc, ◌≤◌, max, Bool, true, ◌&&◌, ◌||◌, ◌==◌, List, [], ◌∷◌, ◌++◌, map, filter, fold, length, count_by, Contains, slice_get, Some}
+use Rattle.std.specs.Prelude.{◌≡◌, ℕ, suc, ◌<◌, ◌≤◌, ◌⊎◌, max, Bool, true, ◌&&◌, ◌||◌, ◌==◌, List, [], ◌∷◌, ◌++◌, map, filter, fold, length, count_by, Contains, slice_get, Some}
 use Rattle.tm_base.specs.declared.events.Entry.{Entry}
 
 -- The events of one thread, and of one object, in the list's order.
@@ -53,3 +53,20 @@ greatest ns = fold max 0 ns
 -- Each event's stamp is 1 plus the greatest stamp of its direct predecessors, or 1 where it has none.
 abbrev pub IsStamped : List Entry → Type 0
 IsStamped es = (e : Entry) → Contains es e → e.stamp ≡ suc (greatest (map (λ a. a.stamp) (filter (λ a. is_direct a e) es)))
+
+-- Stamps rise from each direct predecessor: Lamport's clock condition.
+abbrev pub StampsRise : List Entry → Type 0
+StampsRise es = (a b : Entry) → Contains es a → Contains es b → IsDirect a b → a.stamp < b.stamp
+
+-- Each event of the list stands after those events of the list that are its direct predecessors.
+abbrev pub KeepsPredecessors : List Entry → Type 0
+KeepsPredecessors es = (prefix back : List Entry) (a b : Entry) → es ≡ prefix ++ b ∷ back → Contains es a → IsDirect a b → Contains prefix a
+
+-- The first event has the smaller stamp, or of equal stamps no greater thread number: Lamport's total order, in
+-- which threads break the ties.
+abbrev pub IsNotLater : Entry → Entry → Type 0
+IsNotLater a b = (a.stamp < b.stamp) ⊎ ((a.stamp ≡ b.stamp) × (a.thread ≤ b.thread))
+
+-- The stamp of the last of some events, or 0 where there is none.
+abbrev pub last_stamp : List Entry → ℕ
+last_stamp es = fold (λ stamp e. e.stamp) 0 es

@@ -1,5 +1,5 @@
 ghost use Rattle.std.specs.Prelude.{◌≡◌};
-ghost use Rattle.tm_base.specs.Fits.{fits};
+ghost use Rattle.tm_base.specs.Fits.{fits, is_call};
 
 use crate::kinds::Kind;
 
@@ -66,5 +66,12 @@ impl Op {
             }
             Op::Resume | Op::Stop => true,
         }
+    }
+
+    /// Whether it is a call, which is what a program asks: none of `Begin`, `End`, `Resume` and `Stop`.
+    pub fn is_call(self) -> bool
+        ensures { result ≡ is_call self }
+    {
+        !matches!(self, Op::Begin | Op::End { .. } | Op::Resume | Op::Stop)
     }
 }

@@ -8,8 +8,9 @@ use Rattle.tm_base.specs.States.{State, is_pending}
 use Rattle.tm_base.specs.Steps.{Step}
 use Rattle.tm_base.specs.Machines.{ObjectView, CanStep, is_step}
 use Rattle.tm_base.specs.Histories.{Resumes, Halts, Lawful}
+use Rattle.tm_base.specs.Fits.{is_stop}
 use Rattle.tm_laws.specs.Counts.{bit, occurrences, is_wait, joins}
-use Rattle.tm_laws.specs.Tidy.{IsTidy, IsStateOf, IsSound, Moves, is_stop}
+use Rattle.tm_laws.specs.Tidy.{IsTidy, IsStateOf, IsSound, Moves}
 use Rattle.tm_laws.proofs.Counting.{bit-true, grant-plain}
 use Rattle.tm_laws.proofs.TableRowLemmas.{RowStep}
 use Rattle.tm_laws.proofs.StepRow.{Step-row}

@@ -9,8 +9,9 @@ use Rattle.tm_base.specs.declared.kinds.Kind.TheVariants as kind
 use Rattle.tm_base.specs.States.{State, start_kind_state, start_state, is_pending, is_waiting, grant_of}
 use Rattle.tm_base.specs.Machines.{ObjectView, changed, fresh, is_step}
 use Rattle.tm_base.specs.Histories.{Lawful, Calls}
+use Rattle.tm_base.specs.Fits.{is_stop}
 use Rattle.tm_laws.specs.Counts.{bit, is_wait}
-use Rattle.tm_laws.specs.Tidy.{IsStateOf, IsSound, Moves, is_stop}
+use Rattle.tm_laws.specs.Tidy.{IsStateOf, IsSound, Moves}
 use Rattle.tm_laws.specs.ThreadObjects.{is_begin, is_end}
 use Rattle.tm_laws.specs.Owed.{pending_to, own_owed, owed, paid}
 use Rattle.tm_laws.proofs.Counting.{bit_small, grant-plain}

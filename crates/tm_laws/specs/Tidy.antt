@@ -1,6 +1,6 @@
 -- What holds in every state of a legal history: no thread waits twice, and each that waits is a program
 -- thread; and what each event does to the pending calls.
-use Rattle.std.specs.Prelude.{◌≡◌, ℕ, ◌+◌, ◌≤◌, Bool, true, false, ◌||◌, ◌==◌, if◌then◌else◌, [], length, Some}
+use Rattle.std.specs.Prelude.{◌≡◌, ℕ, ◌+◌, ◌≤◌, true, ◌||◌, ◌==◌, if◌then◌else◌, [], length, Some}
 use Rattle.tm_base.specs.declared.operations.Op.{Op}
 use Rattle.tm_base.specs.declared.operations.Op.TheVariants as op
 use Rattle.tm_base.specs.declared.replies.Reply.{Reply}
@@ -8,6 +8,7 @@ use Rattle.tm_base.specs.declared.kinds.Kind.{Kind}
 use Rattle.tm_base.specs.declared.kinds.Kind.TheVariants as kind
 use Rattle.tm_base.specs.States.{KindState, State, MutexState, SemState, HoareState, MesaState, BarrierState, RwState, SyncState, AsyncState, ThreadObjectState, VarState, queued, grant_of, is_pending}
 use Rattle.tm_base.specs.Machines.{ObjectView, changed}
+use Rattle.tm_base.specs.Fits.{is_stop}
 use Rattle.tm_laws.specs.Counts.{bit, occurrences, is_wait, is_grant}
 
 -- The state is one of the kind; a monitor has the queues of its conditions.
@@ -38,10 +39,6 @@ pub record IsTidy (threads : ℕ) (s : State) : Type 0 where
 pub record IsSound (h : ObjectView) : Type 0 where
   pub tidy : IsTidy h.threads h.state
   pub kind_state : IsStateOf h.kind h.state.kind_state
-
-abbrev pub is_stop : Op → Bool
-is_stop op.Stop = true
-is_stop o = false
 
 -- What a thread's event with this reply does to a sound object: it stays sound, the thread's call is
 -- pending from now on exactly where the reply is `wait`, every other thread's as before, and only a stop

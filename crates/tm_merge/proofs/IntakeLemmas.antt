@@ -7,12 +7,13 @@ use Rattle.std.proofs.lemmas.List.Elements.{Contains-append_left, Contains-appen
 use Rattle.std.proofs.lemmas.List.Sorted.{IsPermutation-refl, IsPermutation-sym, IsPermutation-trans, IsPermutation-middle, IsPermutation-append_left, IsPermutation-append_right, length_permutation}
 use Rattle.tm_base.specs.declared.events.Entry.{Entry}
 use Rattle.tm_base.specs.Runs.{Leads}
+use Rattle.tm_base.specs.Orders.{StampsRise}
 use Rattle.tm_merge.specs.declared.arrivals.Arrivals.{Arrivals}
 use Rattle.tm_merge.specs.declared.refusals.Refused.{Refused}
 use Rattle.tm_merge.specs.Following.{Appends}
 use Rattle.tm_merge.specs.Intakes.{partly_shown}
 use Rattle.tm_merge.specs.MergerViews.{MergerView, arrived}
-use Rattle.tm_merge.specs.Numbering.{HaveOwnPlaces, IsNumbered, PrefixesAreClosed, StampsRise}
+use Rattle.tm_merge.specs.Numbering.{HaveOwnPlaces, IsNumbered, PrefixesAreClosed}
 use Rattle.tm_merge.specs.ReadyThreads.{KeepsAll}
 use Rattle.tm_merge.specs.Refusals.{refusal}
 use Rattle.tm_merge.specs.Rising.{Sorts}

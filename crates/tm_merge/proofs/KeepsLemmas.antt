@@ -5,11 +5,12 @@ use Rattle.std.specs.List.Sorted.{IsPermutation}
 use Rattle.std.proofs.lemmas.List.{append_assoc}
 use Rattle.std.proofs.lemmas.List.Sorted.{IsPermutation-sym, IsPermutation-to_front}
 use Rattle.tm_base.specs.declared.events.Entry.{Entry}
+use Rattle.tm_base.specs.Orders.{StampsRise}
 use Rattle.tm_merge.specs.declared.arrivals.Arrivals.{Arrivals}
 use Rattle.tm_merge.specs.declared.lines.Line.{Line}
 use Rattle.tm_merge.specs.Lines.{slot_at, Gains}
 use Rattle.tm_merge.specs.MergerViews.{arrived}
-use Rattle.tm_merge.specs.Numbering.{IsNumbered, StampsRise}
+use Rattle.tm_merge.specs.Numbering.{IsNumbered}
 use Rattle.tm_merge.specs.Places.{at_place, at_object}
 use Rattle.tm_merge.specs.Showing.{Joins}
 use Rattle.tm_merge.specs.StoredArrivals.{occupants, view_of, IsIndexed, HasSlot, AreTails, KeepsArrivals}

@@ -9,10 +9,11 @@ use Rattle.std.proofs.lemmas.List.{take-append-drop}
 use Rattle.std.proofs.lemmas.List.Elements.{Contains-append_left, Contains-append_right, Contains-append_cases}
 use Rattle.std.proofs.lemmas.List.Sorted.{IsPermutation-sym, IsPermutation-append_right, Contains-permutation, length_permutation}
 use Rattle.tm_base.specs.declared.events.Entry.{Entry}
+use Rattle.tm_base.specs.Orders.{StampsRise}
 use Rattle.tm_merge.specs.declared.arrivals.Arrivals.{Arrivals}
 use Rattle.tm_merge.specs.declared.lines.Line.{Line}
 use Rattle.tm_merge.specs.MergerViews.{MergerView, arrived}
-use Rattle.tm_merge.specs.Numbering.{IsNumberedBy, IsNumbered, StampsRise}
+use Rattle.tm_merge.specs.Numbering.{IsNumberedBy, IsNumbered}
 use Rattle.tm_merge.specs.Places.{has_predecessors}
 use Rattle.tm_merge.specs.ReadyThreads.{is_listed, KeepsAll}
 use Rattle.tm_merge.specs.Rising.{IsSortedFrom, Sorts}

@@ -7,19 +7,20 @@ use Rattle.std.specs.Vec.{vec_capacity}
 use Rattle.std.proofs.lemmas.Bool.{cases_Bool, cases_eq, cond-false, and_parts, and_from, and_left, or_cases, eq-eqb, ne_eqb, eqb-true}
 use Rattle.std.proofs.lemmas.List.Sorted.{IsPermutation-sym, Contains-permutation}
 use Rattle.tm_base.specs.declared.events.Entry.{Entry}
+use Rattle.tm_base.specs.Orders.{IsNotLater}
 use Rattle.tm_merge.specs.declared.arrivals.Arrivals.{Arrivals}
 use Rattle.tm_merge.specs.declared.arrivals.showing.Candidate.{Candidate}
 use Rattle.tm_merge.specs.Candidates.{IsReadyIn, NoneReadyIn, IsAmong, IsBestIn, IsBestBelow, IsNextIn}
 use Rattle.tm_merge.specs.Places.{has_place, has_at, has_predecessors}
 use Rattle.tm_merge.specs.ReadyThreads.{is_listed, with_thread, HasReady, ListsReady, ListsAllReady, ListsOnlyReady, KeepsAll}
-use Rattle.tm_merge.specs.Showing.{IsReady, IsSettled, IsSooner, Joins, Shows}
+use Rattle.tm_merge.specs.Showing.{IsReady, IsSettled, Joins, Shows}
 use Rattle.tm_merge.specs.StoredArrivals.{found, occupants, KeepsArrivals, view_of}
 use Rattle.tm_merge.proofs.ListLemmas.{Contains-first, Contains-rest}
 use Rattle.tm_merge.proofs.ListingLemmas.{once-filter, once-with, listed-with, listed-without, listed_apart, listed_before, listed_room, among_all, among_more}
 use Rattle.tm_merge.proofs.NumberingLemmas.{found-snoc}
 
 -- an event that is sooner than one is sooner than all later ones
-pub sooner_still : (a b c : Entry) → IsSooner a b → IsSooner b c → IsSooner a c
+pub sooner_still : (a b c : Entry) → IsNotLater a b → IsNotLater b c → IsNotLater a c
 sooner_still a b c first second = ⊎_elim
     (λ (less : a.stamp < b.stamp). ⊎_elim
     (λ (more : b.stamp < c.stamp). inl (omega (arith, less, more)))
@@ -243,8 +244,8 @@ module _ (a : Arrivals) where
     }
 
     module _ (c : Candidate) (own : IsReadyIn a t c) where
-      is_own : (e : Entry) → IsReady (view_of a) e → e.thread ≡ t → IsSooner c.entry e
-      is_own e ready same = subst (IsSooner c.entry) (sym (own.only e ready same)) (inr (refl, omega arith))
+      is_own : (e : Entry) → IsReady (view_of a) e → e.thread ≡ t → IsNotLater c.entry e
+      is_own e ready same = subst (IsNotLater c.entry) (sym (own.only e ready same)) (inr (refl, omega arith))
 
       pub better-first : ((e : Entry) → IsReady (view_of a) e → IsAmong a.ready.items n e.thread → ⊥) → IsBestIn a (n + 1) c
       better-first none = record {
@@ -256,7 +257,7 @@ module _ (a : Arrivals) where
             (among_more a.ready.items n e.thread t here among);
       }
 
-      pub better-new : (d : Candidate) → IsBestIn a n d → IsSooner c.entry d.entry → IsBestIn a (n + 1) c
+      pub better-new : (d : Candidate) → IsBestIn a n d → IsNotLater c.entry d.entry → IsBestIn a (n + 1) c
       better-new d best sooner = record {
         there = own.there;
         ready = own.ready;
@@ -266,12 +267,12 @@ module _ (a : Arrivals) where
             (among_more a.ready.items n e.thread t here among);
       }
 
-      pub better-old : (d : Candidate) → IsBestIn a n d → IsSooner d.entry c.entry → IsBestIn a (n + 1) d
+      pub better-old : (d : Candidate) → IsBestIn a n d → IsNotLater d.entry c.entry → IsBestIn a (n + 1) d
       better-old d best sooner = record {
         there = best.there;
         ready = best.ready;
         soonest = λ e ready among. ⊎_elim
             (λ (earlier : IsAmong a.ready.items n e.thread). best.soonest e ready earlier)
-            (λ (same : e.thread ≡ t). subst (IsSooner d.entry) (sym (own.only e ready same)) sooner)
+            (λ (same : e.thread ≡ t). subst (IsNotLater d.entry) (sym (own.only e ready same)) sooner)
             (among_more a.ready.items n e.thread t here among);
       }

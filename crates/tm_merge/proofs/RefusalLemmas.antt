@@ -5,9 +5,8 @@ use Rattle.std.proofs.lemmas.Bool.{cases_Bool, eqb-true, and_parts, or_cases, lt
 use Rattle.std.proofs.lemmas.Bool.Decides.{nat_tests}
 use Rattle.std.proofs.lemmas.List.Elements.{Contains-push_cases}
 use Rattle.tm_base.specs.declared.events.Entry.{Entry}
-use Rattle.tm_base.specs.Orders.{IsDirect}
+use Rattle.tm_base.specs.Orders.{IsDirect, StampsRise}
 use Rattle.tm_merge.specs.MergerViews.{MergerView, arrived}
-use Rattle.tm_merge.specs.Numbering.{StampsRise}
 use Rattle.tm_merge.specs.Places.{at_place, at_object}
 use Rattle.tm_merge.specs.Refusals.{range_fault, twice, clash_before, clash_after, clash_in_thread, clash_at_object, clash, refusal}
 

@@ -5,8 +5,8 @@ use Rattle.std.specs.Ordering.{is_lt, nat_cmp, ordering_then}
 use Rattle.std.specs.declared.cmp.Ordering.TheVariants.{Less, Equal, Greater}
 use Rattle.std.proofs.lemmas.Bool.{cases_Bool, cond-true, cond-false, eqb-true, eqb-false, ltb-false}
 use Rattle.tm_base.specs.declared.events.Entry.{Entry}
+use Rattle.tm_base.specs.Orders.{IsNotLater}
 use Rattle.tm_merge.specs.Rising.{IsRising}
-use Rattle.tm_merge.specs.Showing.{IsSooner}
 use Rattle.tm_merge.proofs.ListLemmas.{Contains-first}
 use Rattle.tm_merge.proofs.ReadyThreadsLemmas.{sooner_still}
 
@@ -46,9 +46,9 @@ rising_from_sorted (e ∷ f ∷ es) sorted =
     let later = rising_from_sorted (f ∷ es) (λ k d low high.
     let next : suc k + 1 ≡ suc (k + 1) = omega arith in
     subst (λ n. comes_first (get_or (e ∷ f ∷ es) n d) (get_or (e ∷ f ∷ es) (suc k) d) ≡ false) next (sorted (suc k) d (omega arith) (omega (arith, high)))) in
-    let next : IsSooner e f = not_before e.stamp f.stamp e.thread f.thread (sorted 0 e (omega arith) (omega arith)) in (
+    let next : IsNotLater e f = not_before e.stamp f.stamp e.thread f.thread (sorted 0 e (omega arith) (omega arith)) in (
       (λ x h. ⊎_elim
-          (λ (same : x ≡ f). subst (IsSooner e) (sym same) next)
+          (λ (same : x ≡ f). subst (IsNotLater e) (sym same) next)
           (λ (after : Contains es x). sooner_still e f x next (later.0 x after))
           (Contains-first f es x h)),
       later,

@@ -9,13 +9,13 @@ use Rattle.std.proofs.lemmas.List.Elements.{Contains-append_left, Contains-appen
 use Rattle.std.proofs.lemmas.List.Sorted.{IsPermutation-refl, IsPermutation-sym, Contains-permutation, sum_by-IsPermutation}
 use Rattle.std.proofs.lemmas.List.Sums.{sum_by-cons, sum_by-append}
 use Rattle.tm_base.specs.declared.events.Entry.{Entry}
-use Rattle.tm_base.specs.Orders.{IsDirect}
+use Rattle.tm_base.specs.Orders.{IsDirect, IsNotLater, StampsRise}
 use Rattle.tm_base.specs.Runs.{Leads}
 use Rattle.tm_merge.specs.MergerViews.{MergerView}
-use Rattle.tm_merge.specs.Numbering.{IsNumberedBy, IsNumbered, StampsRise}
+use Rattle.tm_merge.specs.Numbering.{IsNumberedBy, IsNumbered}
 use Rattle.tm_merge.specs.Places.{has_place, has_at, has_predecessors}
 use Rattle.tm_merge.specs.Rising.{IsRising}
-use Rattle.tm_merge.specs.Showing.{IsReady, IsSooner, Shows}
+use Rattle.tm_merge.specs.Showing.{IsReady, Shows}
 use Rattle.tm_merge.specs.StoredArrivals.{found}
 use Rattle.tm_merge.proofs.ListLemmas.{Contains-first}
 use Rattle.tm_merge.proofs.NumberingLemmas.{count_in, IsExact, exact-snoc, exact_owns, walk, none_from, numbered-snoc}
@@ -143,7 +143,7 @@ whole-permutation es fs same whole =
       counted = λ e h. whole.counted e (back e h);
     }
 
-sooner_stamp : (a b : Entry) → IsSooner a b → a.stamp ≤ b.stamp
+sooner_stamp : (a b : Entry) → IsNotLater a b → a.stamp ≤ b.stamp
 sooner_stamp a b h = ⊎_elim (λ (less : a.stamp < b.stamp). omega (arith, less)) (λ (same : (a.stamp ≡ b.stamp) × (a.thread ≤ b.thread)). omega (arith, same.0)) h
 
 module _ (all : List Entry) (whole : IsWhole all) where
@@ -151,7 +151,7 @@ module _ (all : List Entry) (whole : IsWhole all) where
   among s rest e is = subst (λ es. Contains es e) (sym is) (Contains-append_right s (e ∷ rest) e (0, omega arith, refl))
 
   -- the first of the sorted events has its predecessors before it
-  first_after : (s rest : List Entry) (e : Entry) → all ≡ s ++ e ∷ rest → ((x : Entry) → Contains rest x → IsSooner e x) → has_predecessors s e ≡ true
+  first_after : (s rest : List Entry) (e : Entry) → all ≡ s ++ e ∷ rest → ((x : Entry) → Contains rest x → IsNotLater e x) → has_predecessors s e ≡ true
   first_after s rest e is sooner = predecessors_in all s e kept (whole.after e (among s rest e is))
     where
       kept : (y : Entry) → Contains all y → IsDirect y e → Contains s y
@@ -187,7 +187,7 @@ module _ (all : List Entry) (whole : IsWhole all) where
     abbrev pub having : (s held : List Entry) → MergerView
     having s held = record { threads = threads; objects = objects; shown = s; held = held }
 
-    first_shows : (s rest : List Entry) (e : Entry) (held : List Entry) → all ≡ s ++ e ∷ rest → ((x : Entry) → Contains rest x → IsSooner e x) → IsPermutation held (e ∷ (rest ++ others)) → Shows (having s held) e (having (s ++ e ∷ []) (rest ++ others))
+    first_shows : (s rest : List Entry) (e : Entry) (held : List Entry) → all ≡ s ++ e ∷ rest → ((x : Entry) → Contains rest x → IsNotLater e x) → IsPermutation held (e ∷ (rest ++ others)) → Shows (having s held) e (having (s ++ e ∷ []) (rest ++ others))
     first_shows s rest e held is sooner same = record {
       next = record {
         ready = record {
@@ -202,9 +202,9 @@ module _ (all : List Entry) (whole : IsWhole all) where
       held = same;
     }
       where
-        soonest : (a : Entry) → IsReady (having s held) a → IsSooner e a
+        soonest : (a : Entry) → IsReady (having s held) a → IsNotLater e a
         soonest a ready = ⊎_elim
-            (λ (itself : a ≡ e). subst (IsSooner e) (sym itself) (inr (refl, omega arith)))
+            (λ (itself : a ≡ e). subst (IsNotLater e) (sym itself) (inr (refl, omega arith)))
             (λ (behind : Contains (rest ++ others) a). ⊎_elim
             (λ (later : Contains rest a). sooner a later)
             (λ (other : Contains others a).

@@ -1,9 +1,10 @@
 -- Which of the stored events is shown next.
 use Rattle.std.specs.Prelude.{◌≡◌, ◌≢◌, ℕ, ◌<◌, MatchOption, List, Option, Some, slice_get}
 use Rattle.tm_base.specs.declared.events.Entry.{Entry}
+use Rattle.tm_base.specs.Orders.{IsNotLater}
 use Rattle.tm_merge.specs.declared.arrivals.Arrivals.{Arrivals}
 use Rattle.tm_merge.specs.declared.arrivals.showing.Candidate.{Candidate}
-use Rattle.tm_merge.specs.Showing.{IsReady, IsNext, IsSooner}
+use Rattle.tm_merge.specs.Showing.{IsReady, IsNext}
 use Rattle.tm_merge.specs.StoredArrivals.{view_of}
 
 -- The candidate is the one event of the thread that is ready.
@@ -27,7 +28,7 @@ pub record IsAmong (ts : List ℕ) (n t : ℕ) : Type 0 where
 pub record IsBestIn (a : Arrivals) (n : ℕ) (c : Candidate) : Type 0 where
   pub there : slice_get a.slots.items c.slot ≡ Some (Some c.entry)
   pub ready : IsReady (view_of a) c.entry
-  pub soonest : (e : Entry) → IsReady (view_of a) e → IsAmong a.ready.items n e.thread → IsSooner c.entry e
+  pub soonest : (e : Entry) → IsReady (view_of a) e → IsAmong a.ready.items n e.thread → IsNotLater c.entry e
 
 -- The soonest ready event of this many listed threads, if one is ready.
 abbrev pub IsBestBelow : Arrivals → ℕ → Option Candidate → Type 0

@@ -1,7 +1,7 @@
 -- Lists of events that stand in the order of their places, and so after all that happened before them.
 use Rattle.std.specs.Prelude.{◌≡◌, ℕ, suc, ◌<◌, ◌==◌, List, ◌∷◌, ◌++◌, filter, length, Contains}
 use Rattle.tm_base.specs.declared.events.Entry.{Entry}
-use Rattle.tm_base.specs.Orders.{IsDirect, StandsOnce, IsClosed}
+use Rattle.tm_base.specs.Orders.{StandsOnce, IsClosed, KeepsPredecessors}
 
 -- The number of each event is one more than how many events of its line stand before it.
 abbrev pub IsNumberedBy : (line number : Entry → ℕ) → List Entry → Type 0
@@ -11,14 +11,6 @@ IsNumberedBy line number es = (prefix back : List Entry) (e : Entry) → es ≡ 
 pub record IsNumbered (es : List Entry) : Type 0 where
   pub threads : IsNumberedBy (λ e. e.thread) (λ e. e.place) es
   pub objects : IsNumberedBy (λ e. e.object) (λ e. e.at) es
-
--- Stamps rise from each direct predecessor (Lamport's clock condition, CACM 1978).
-abbrev pub StampsRise : List Entry → Type 0
-StampsRise es = (a b : Entry) → Contains es a → Contains es b → IsDirect a b → a.stamp < b.stamp
-
--- Each event of the list stands after those of its direct predecessors that are in the list.
-abbrev pub IsInOrder : List Entry → Type 0
-IsInOrder es = (prefix back : List Entry) (a b : Entry) → es ≡ prefix ++ b ∷ back → Contains es a → IsDirect a b → Contains prefix a
 
 -- Places count from 1, and no two events have one place in one thread, or one at one object.
 pub record HaveOwnPlaces (es : List Entry) : Type 0 where
@@ -32,7 +24,7 @@ PrefixesAreClosed es events = (prefix back : List Entry) → es ≡ prefix ++ ba
 
 -- In a numbered list no event stands twice, and each stands after its direct predecessors.
 abbrev pub NumberedEventsAreInOrder : Type 0
-NumberedEventsAreInOrder = (es : List Entry) → IsNumbered es → IsInOrder es × StandsOnce es
+NumberedEventsAreInOrder = (es : List Entry) → IsNumbered es → KeepsPredecessors es × StandsOnce es
 
 -- The prefixes of a numbered list are closed in all events among which it stands, which may be more than those
 -- that have arrived so far.

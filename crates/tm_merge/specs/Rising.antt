@@ -2,13 +2,13 @@
 use Rattle.std.specs.Prelude.{◌≡◌, ℕ, List, [], ◌∷◌, Contains, take, drop}
 use Rattle.std.specs.List.Sorted.{IsPermutation}
 use Rattle.tm_base.specs.declared.events.Entry.{Entry}
+use Rattle.tm_base.specs.Orders.{IsNotLater}
 use Rattle.tm_merge.specs.MergerViews.{MergerView}
-use Rattle.tm_merge.specs.Showing.{IsSooner}
 
 -- No event comes before one that stands before it.
 abbrev pub IsRising : List Entry → Type 0
 IsRising [] = Unit {0}
-IsRising (e ∷ es) = ((x : Entry) → Contains es x → IsSooner e x) × IsRising es
+IsRising (e ∷ es) = ((x : Entry) → Contains es x → IsNotLater e x) × IsRising es
 
 -- The events are the same, in that order.
 pub record AreSorted (es fs : List Entry) : Type 0 where

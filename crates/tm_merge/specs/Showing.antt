@@ -1,8 +1,9 @@
 -- How a merger takes events and shows them.
-use Rattle.std.specs.Prelude.{◌≡◌, ℕ, ◌<◌, ◌≤◌, true, false, ◌⊎◌, List, [], ◌∷◌, ◌++◌, length, Contains}
+use Rattle.std.specs.Prelude.{◌≡◌, ℕ, true, false, List, [], ◌∷◌, ◌++◌, length, Contains}
 use Rattle.std.specs.List.Sorted.{IsPermutation}
 use Rattle.tm_base.specs.declared.events.Entry.{Entry}
 use Rattle.tm_base.specs.Runs.{Leads}
+use Rattle.tm_base.specs.Orders.{IsNotLater}
 use Rattle.tm_merge.specs.MergerViews.{MergerView}
 use Rattle.tm_merge.specs.Places.{has_predecessors}
 
@@ -11,14 +12,10 @@ pub record IsReady (v : MergerView) (e : Entry) : Type 0 where
   pub held : Contains v.held e
   pub after : has_predecessors v.shown e ≡ true
 
--- The order of stamps, and of threads where stamps are equal.
-abbrev pub IsSooner : Entry → Entry → Type 0
-IsSooner a b = (a.stamp < b.stamp) ⊎ ((a.stamp ≡ b.stamp) × (a.thread ≤ b.thread))
-
 -- The event is ready, and no ready event comes before it.
 pub record IsNext (v : MergerView) (e : Entry) : Type 0 where
   pub ready : IsReady v e
-  pub soonest : (a : Entry) → IsReady v a → IsSooner e a
+  pub soonest : (a : Entry) → IsReady v a → IsNotLater e a
 
 -- The event arrives.
 pub record Joins (v : MergerView) (e : Entry) (w : MergerView) : Type 0 where

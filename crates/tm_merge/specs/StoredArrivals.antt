@@ -2,11 +2,12 @@
 use Rattle.std.specs.Prelude.{◌≡◌, ℕ, suc, ◌+◌, ◌-◌, ◌^◌, ◌<◌, ◌≤◌, ◌==◌, ◌&&◌, List, length, filter, find, filter_map, Option, Some, slice_get}
 use Rattle.std.specs.Vec.{vec_capacity}
 use Rattle.tm_base.specs.declared.events.Entry.{Entry}
+use Rattle.tm_base.specs.Orders.{StampsRise}
 use Rattle.tm_merge.specs.declared.arrivals.Arrivals.{Arrivals}
 use Rattle.tm_merge.specs.declared.lines.Line.{Line}
 use Rattle.tm_merge.specs.Lines.{slot_at, HasRoomAt}
 use Rattle.tm_merge.specs.MergerViews.{MergerView, arrived}
-use Rattle.tm_merge.specs.Numbering.{IsNumbered, StampsRise}
+use Rattle.tm_merge.specs.Numbering.{IsNumbered}
 
 -- The events in the slots that are taken.
 abbrev pub occupants : List (Option Entry) → List Entry

@@ -1,8 +1,9 @@
 ghost use Rattle.std.specs.Prelude.{◌≡◌, ◌∷◌, ◌<◌, ◌↔◌, length, IfOk, IfSome, IsSome, OnErr, OnOk};
 ghost use Rattle.std.specs.List.Sorted.{IsPermutation};
+ghost use Rattle.tm_base.specs.Orders.{KeepsPredecessors, StampsRise};
 ghost use Rattle.tm_merge.specs.Holding.{IsHeldAt, IsMissing};
 ghost use Rattle.tm_merge.specs.MergerViews.{arrived, nothing_arrived};
-ghost use Rattle.tm_merge.specs.Numbering.{HaveOwnPlaces, IsInOrder, IsNumbered, PrefixesAreClosed, StampsRise};
+ghost use Rattle.tm_merge.specs.Numbering.{HaveOwnPlaces, IsNumbered, PrefixesAreClosed};
 ghost use Rattle.tm_merge.specs.Refusals.{refusal, stated};
 ghost use Rattle.tm_merge.specs.Showing.{IsSettled, Joins, Settles};
 
@@ -70,7 +71,7 @@ impl Merger {
     pub fn shown(&self) -> &[Entry]
         ensures value { result.now ≡ self.now.shown }
         ensures numbered { IsNumbered self.now.shown }
-        ensures in_order { IsInOrder self.now.shown }
+        ensures in_order { KeepsPredecessors self.now.shown }
         ensures closed { PrefixesAreClosed self.now.shown (arrived self.now) }
     {
         self.intake.shown()

@@ -5,10 +5,10 @@ use Rattle.std.proofs.lemmas.List.{append_assoc}
 use Rattle.std.proofs.lemmas.List.Elements.{Contains-append_left}
 use Rattle.std.proofs.lemmas.List.Sorted.{Contains-permutation}
 use Rattle.tm_base.specs.declared.events.Entry.{Entry}
-use Rattle.tm_base.specs.Orders.{IsChain, IsClosed}
+use Rattle.tm_base.specs.Orders.{IsChain, IsClosed, KeepsPredecessors}
 use Rattle.tm_replay.proofs.SliceLemmas.{Contains-parts}
 use Rattle.tm_order.specs.Cuts.{HaveSameEvents}
-use Rattle.tm_order.specs.LinearExtensions.{IsLinearExtension, KeepsPredecessors}
+use Rattle.tm_order.specs.LinearExtensions.{IsLinearExtension}
 use Rattle.tm_order.proofs.Elements.{Contains-middle}
 
 -- along a chain each event stands before the next

@@ -5,7 +5,7 @@ use Rattle.std.proofs.lemmas.List.Elements.{Contains-push_cases}
 use Rattle.std.proofs.lemmas.Option.{slice_get_within}
 use Rattle.tm_base.specs.declared.events.Entry.{Entry}
 use Rattle.tm_base.specs.Histories.{Label, HistoryState, Follows, IsHistory, first_history_state}
-use Rattle.tm_base.specs.Orders.{of_object, of_thread}
+use Rattle.tm_base.specs.Orders.{of_object, of_thread, last_stamp}
 use Rattle.tm_laws.proofs.Determined.{history-one}
 use Rattle.tm_laws.proofs.RunsLemmas.{Leads-snoc, Leads-split}
 use Rattle.tm_text.specs.Exercises.{ExerciseView}
@@ -13,7 +13,7 @@ use Rattle.tm_replay.specs.JointStates.{JointState, ThreadState, ObjectState, st
 use Rattle.tm_replay.specs.JointSteps.{JointStep, IsJointRun, stepped, entered}
 use Rattle.tm_replay.proofs.SliceLemmas.{Contains-parts, found_at}
 use Rattle.tm_replay.proofs.ProjectionsLemmas.{runs-keep}
-use Rattle.tm_order.specs.Records.{IsClocked, IsReached, IsRecorded, label_of, last_stamp, object_state_at}
+use Rattle.tm_order.specs.Records.{IsClocked, IsReached, IsRecorded, label_of, object_state_at}
 use Rattle.tm_order.specs.ThreadRuns.{IsThreadRun, ThreadStep, thread_at_start}
 use Rattle.tm_order.specs.Interleavings.{AreInRange, IsInterleaving}
 use Rattle.tm_order.proofs.Elements.{Contains-none, Contains-middle, Contains-filtered, AppearOnce, filter-middle, kept-prefix}

@@ -3,13 +3,13 @@ use Rattle.std.proofs.Common.{◌≡◌, List, ◌∷◌, subst}
 use Rattle.std.specs.Prelude.{IsPermutation}
 use Rattle.std.proofs.lemmas.List.Sorted.{Contains-permutation, IsPermutation-sym, IsPermutation-trans}
 use Rattle.tm_base.specs.declared.events.Entry.{Entry}
+use Rattle.tm_base.specs.Orders.{KeepsPredecessors}
 use Rattle.tm_laws.proofs.RunsLemmas.{Leads-split}
 use Rattle.tm_text.specs.Exercises.{ExerciseView}
 use Rattle.tm_replay.specs.JointStates.{JointState, start}
 use Rattle.tm_replay.specs.JointSteps.{IsJointRun, JointStep}
 use Rattle.tm_replay.proofs.JointOrderLemmas.{runs-placed, runs-stamped}
 use Rattle.tm_order.specs.LegalEvents.{AreLegal, BreaksOff, RunInEachOrder}
-use Rattle.tm_order.specs.LinearExtensions.{KeepsPredecessors}
 use Rattle.tm_order.proofs.PlacedLemmas.{placed-permuted}
 use Rattle.tm_order.proofs.Rearranging.{rearranged}
 use Rattle.tm_order.proofs.StampOrderLemmas.{run-sorts, stamped-rises}

@@ -6,7 +6,7 @@ use Rattle.std.proofs.lemmas.Option.{same_Some, slice_get-map, slice_get-get_or,
 use Rattle.std.specs.Option.{option_map}
 use Rattle.tm_base.specs.declared.events.Entry.{Entry}
 use Rattle.tm_base.specs.Histories.{Label, HistoryState, Lawful, Follows, IsHistory, first_history_state}
-use Rattle.tm_base.specs.Orders.{of_object, of_thread}
+use Rattle.tm_base.specs.Orders.{of_object, of_thread, last_stamp}
 use Rattle.tm_laws.proofs.Determined.{history-one}
 use Rattle.tm_laws.proofs.RunsLemmas.{Leads-snoc, Leads-one}
 use Rattle.tm_text.specs.declared.exercises.Declaration.{Declaration}
@@ -14,7 +14,7 @@ use Rattle.tm_text.specs.Exercises.{ExerciseView}
 use Rattle.tm_replay.specs.JointStates.{JointState, ThreadState, ObjectState, start, first_object_state, unbegun}
 use Rattle.tm_replay.specs.JointSteps.{JointStep, May, stepped, entered}
 use Rattle.tm_replay.proofs.SliceLemmas.{filter-snoc_in, filter-snoc_out, found_at, slice_get-set_same}
-use Rattle.tm_order.specs.Records.{IsReached, label_of, last_stamp, object_state_at}
+use Rattle.tm_order.specs.Records.{IsReached, label_of, object_state_at}
 use Rattle.tm_order.specs.ThreadRuns.{IsThreadRun, ThreadStep, thread_at_start}
 use Rattle.tm_order.proofs.Elements.{same-found, same-places, slice_get-set_other}
 use Rattle.tm_order.proofs.Numbers.{Leads-each, RunFrom, Leads-numbered, Leads-last}

@@ -5,10 +5,10 @@ use Rattle.std.proofs.lemmas.Bool.{cases_lt}
 use Rattle.std.proofs.lemmas.List.Elements.{Contains-append_cases, Contains-append_right, Contains-get_or}
 use Rattle.std.proofs.lemmas.List.Sorted.{Contains-permutation, IsPermutation-sym}
 use Rattle.tm_base.specs.declared.events.Entry.{Entry}
-use Rattle.tm_base.specs.Orders.{IsWellPlaced}
+use Rattle.tm_base.specs.Orders.{IsWellPlaced, IsNotLater, StampsRise}
 use Rattle.tm_replay.proofs.SliceLemmas.{Contains-first}
 use Rattle.tm_order.specs.Ready.{IsShownBefore, NoneIsReady, ShowsSoonest}
-use Rattle.tm_order.specs.StampOrder.{IsInStampOrder, IsNotLater, StampsRise}
+use Rattle.tm_order.specs.StampOrder.{IsInStampOrder}
 use Rattle.tm_order.proofs.Elements.{Contains-head, Contains-next}
 use Rattle.tm_order.proofs.PlacedLemmas.{key-before}
 use Rattle.tm_order.proofs.Rearranging.{direct-object, direct-thread}

@@ -7,14 +7,13 @@ use Rattle.std.proofs.lemmas.List.Sorted.{Contains-permutation, IsPermutation-sy
 use Rattle.std.proofs.lemmas.Option.{slice_get_within}
 use Rattle.tm_base.specs.declared.events.Entry.{Entry}
 use Rattle.tm_base.specs.Histories.{IsHistory}
-use Rattle.tm_base.specs.Orders.{of_object, of_thread, IsDirect}
+use Rattle.tm_base.specs.Orders.{of_object, of_thread, IsDirect, KeepsPredecessors}
 use Rattle.tm_text.specs.Exercises.{ExerciseView}
 use Rattle.tm_replay.specs.JointStates.{JointState}
 use Rattle.tm_replay.specs.JointSteps.{IsJointRun}
 use Rattle.tm_replay.proofs.SliceLemmas.{found_at}
 use Rattle.tm_replay.proofs.ClosedPrefixesLemmas.{prefixes-are_closed}
 use Rattle.tm_replay.proofs.JointOrderLemmas.{runs-placed}
-use Rattle.tm_order.specs.LinearExtensions.{KeepsPredecessors}
 use Rattle.tm_order.specs.Records.{IsReached, label_of}
 use Rattle.tm_order.specs.ThreadRuns.{IsThreadRun}
 use Rattle.tm_order.specs.Interleavings.{AreInRange}

@@ -5,13 +5,12 @@ use Rattle.std.proofs.lemmas.List.{append-nil, append_assoc}
 use Rattle.std.proofs.lemmas.List.Elements.{Contains-append_cases, Contains-append_right}
 use Rattle.std.proofs.lemmas.List.Sums.{fold_push}
 use Rattle.tm_base.specs.declared.events.Entry.{Entry}
-use Rattle.tm_base.specs.Orders.{StandsOnce, of_object, of_thread}
+use Rattle.tm_base.specs.Orders.{StandsOnce, of_object, of_thread, KeepsPredecessors, last_stamp}
 use Rattle.tm_text.specs.Exercises.{ExerciseView}
 use Rattle.tm_replay.proofs.SliceLemmas.{Contains-parts, found_at}
-use Rattle.tm_order.specs.LinearExtensions.{KeepsPredecessors}
 use Rattle.tm_order.specs.Ready.{NoneIsReady}
 use Rattle.tm_order.specs.RecordedRuns.{AreRecorded, IsWholeRun}
-use Rattle.tm_order.specs.Records.{IsClocked, IsRecorded, label_of, last_stamp}
+use Rattle.tm_order.specs.Records.{IsClocked, IsRecorded, label_of}
 use Rattle.tm_order.proofs.Elements.{Contains-middle, AppearOnce, AppearOnce-stands}
 use Rattle.tm_order.proofs.Numbers.{IsPair, RunFrom-pair}
 use Rattle.tm_order.proofs.ReadyLemmas.{AreComplete, HasBefore, nothing-held}

@@ -5,8 +5,9 @@ use Rattle.std.proofs.lemmas.Bool.{cases_lt, cases_order}
 use Rattle.std.proofs.lemmas.List.Elements.{Contains-get_or}
 use Rattle.std.proofs.lemmas.List.Sorted.{Contains-permutation, IsPermutation-cons, IsPermutation-middle, IsPermutation-refl, IsPermutation-sym, IsPermutation-trans}
 use Rattle.tm_base.specs.declared.events.Entry.{Entry}
+use Rattle.tm_base.specs.Orders.{IsNotLater}
 use Rattle.tm_replay.proofs.SliceLemmas.{Contains-first}
-use Rattle.tm_order.specs.StampOrder.{IsInStampOrder, IsNotLater}
+use Rattle.tm_order.specs.StampOrder.{IsInStampOrder}
 use Rattle.tm_order.proofs.Elements.{Contains-none}
 
 not_later-total : (a b : Entry) → IsNotLater a b ⊎ IsNotLater b a

@@ -6,14 +6,14 @@ use Rattle.std.proofs.lemmas.List.{get_or_at, get_or-append-add}
 use Rattle.std.proofs.lemmas.List.Elements.{Contains-append_cases}
 use Rattle.std.proofs.lemmas.List.Sorted.{Contains-permutation, IsPermutation-sym}
 use Rattle.tm_base.specs.declared.events.Entry.{Entry}
-use Rattle.tm_base.specs.Orders.{HappenedBefore, IsChain, IsStamped, IsWellPlaced, is_direct}
+use Rattle.tm_base.specs.Orders.{HappenedBefore, IsChain, IsStamped, IsWellPlaced, is_direct, IsNotLater, KeepsPredecessors, StampsRise}
 use Rattle.tm_text.specs.Exercises.{ExerciseView}
 use Rattle.tm_replay.specs.JointStates.{JointState}
 use Rattle.tm_replay.specs.JointSteps.{IsJointRun}
 use Rattle.tm_replay.proofs.SliceLemmas.{Contains-first}
 use Rattle.tm_replay.proofs.JointOrderLemmas.{runs-stamped}
-use Rattle.tm_order.specs.LinearExtensions.{IsLinearExtension, KeepsPredecessors}
-use Rattle.tm_order.specs.StampOrder.{AreOrderedByStamps, IsInStampOrder, IsNotLater, StampsRise}
+use Rattle.tm_order.specs.LinearExtensions.{IsLinearExtension}
+use Rattle.tm_order.specs.StampOrder.{AreOrderedByStamps, IsInStampOrder}
 use Rattle.tm_order.proofs.Elements.{Contains-none, Contains-head, Contains-middle, Contains-next, Contains-filter, AppearOnce}
 use Rattle.tm_order.proofs.PlacedLemmas.{key-before, key-one, key-range, placed-once, placed-permuted}
 use Rattle.tm_order.proofs.SortingLemmas.{sorted-order}

@@ -2,11 +2,11 @@
 use Rattle.std.proofs.Common.{◌≡◌, ℕ, suc, ◌<◌, ◌≤◌, max, ◌==◌, List, ◌∷◌, ◌++◌, length, Contains, refl, ap, sym, ◌∙◌, subst, eq-eqb}
 use Rattle.std.proofs.lemmas.List.{append_assoc}
 use Rattle.tm_base.specs.declared.events.Entry.{Entry}
-use Rattle.tm_base.specs.Orders.{StandsOnce, of_object, of_thread}
+use Rattle.tm_base.specs.Orders.{StandsOnce, of_object, of_thread, last_stamp}
 use Rattle.tm_text.specs.Exercises.{ExerciseView}
 use Rattle.tm_replay.proofs.SliceLemmas.{Contains-parts}
 use Rattle.tm_order.specs.RecordedRuns.{AreRecorded}
-use Rattle.tm_order.specs.Records.{IsClocked, IsRecorded, last_stamp}
+use Rattle.tm_order.specs.Records.{IsClocked, IsRecorded}
 use Rattle.tm_order.specs.Views.{RecordsAgree, AreMade, AreViews, KeepsClock}
 use Rattle.tm_order.proofs.Elements.{Contains-filter, Contains-filtered, Contains-middle, AppearOnce, AppearOnce-stands, split-one}
 

@@ -1,8 +1,7 @@
 -- Cuts that are closed under happened-before: of which events, and in which order.
 use Rattle.std.specs.Prelude.{List, Contains}
 use Rattle.tm_base.specs.declared.events.Entry.{Entry}
-use Rattle.tm_base.specs.Orders.{IsClosed}
-use Rattle.tm_order.specs.LinearExtensions.{KeepsPredecessors}
+use Rattle.tm_base.specs.Orders.{IsClosed, KeepsPredecessors}
 
 -- A closed cut, whatever the events, keeps direct predecessors.
 abbrev pub ClosedCutsKeepPredecessors : Type 0

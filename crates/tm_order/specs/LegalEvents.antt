@@ -1,12 +1,11 @@
 -- Events in no order, as the lines of a trace: whether they can have been a run.
 use Rattle.std.specs.Prelude.{◌≡◌, List, ◌∷◌, ◌++◌, IsPermutation}
 use Rattle.tm_base.specs.declared.events.Entry.{Entry}
-use Rattle.tm_base.specs.Orders.{IsWellPlaced}
+use Rattle.tm_base.specs.Orders.{IsWellPlaced, KeepsPredecessors, StampsRise}
 use Rattle.tm_text.specs.Exercises.{ExerciseView}
 use Rattle.tm_replay.specs.JointStates.{JointState}
 use Rattle.tm_replay.specs.JointSteps.{IsJointRun, JointStep}
-use Rattle.tm_order.specs.LinearExtensions.{KeepsPredecessors}
-use Rattle.tm_order.specs.StampOrder.{IsInStampOrder, StampsRise}
+use Rattle.tm_order.specs.StampOrder.{IsInStampOrder}
 use Rattle.tm_order.specs.Interleavings.{AreInRange}
 
 -- Some order of the events is a joint run.

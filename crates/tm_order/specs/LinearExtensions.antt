@@ -1,14 +1,10 @@
 -- Orders of events that keep the causal order: its linear extensions.
 use Rattle.std.specs.Prelude.{◌≡◌, ◌↔◌, List, ◌∷◌, ◌++◌, Contains, IsPermutation}
 use Rattle.tm_base.specs.declared.events.Entry.{Entry}
-use Rattle.tm_base.specs.Orders.{HappenedBefore, IsDirect}
+use Rattle.tm_base.specs.Orders.{HappenedBefore, KeepsPredecessors}
 use Rattle.tm_text.specs.Exercises.{ExerciseView}
 use Rattle.tm_replay.specs.JointStates.{JointState}
 use Rattle.tm_replay.specs.JointSteps.{IsJointRun}
-
--- Each event stands after those events of the list that are its direct predecessors.
-abbrev pub KeepsPredecessors : List Entry → Type 0
-KeepsPredecessors es = (prefix back : List Entry) (a b : Entry) → es ≡ prefix ++ b ∷ back → Contains es a → IsDirect a b → Contains prefix a
 
 -- The order has the events, each after all that happened before it: it is a linear extension of
 -- happened-before (Lamport, CACM 1978).

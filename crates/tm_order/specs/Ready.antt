@@ -1,8 +1,8 @@
 -- Events that are shown one by one, each once the events directly before it are shown.
 use Rattle.std.specs.Prelude.{◌≡◌, ℕ, suc, ◌≤◌, ◌⊎◌, List, [], ◌∷◌, ◌++◌, Contains, IsPermutation}
 use Rattle.tm_base.specs.declared.events.Entry.{Entry}
-use Rattle.tm_base.specs.Orders.{IsWellPlaced}
-use Rattle.tm_order.specs.StampOrder.{IsInStampOrder, IsNotLater, StampsRise}
+use Rattle.tm_base.specs.Orders.{IsWellPlaced, IsNotLater, StampsRise}
+use Rattle.tm_order.specs.StampOrder.{IsInStampOrder}
 
 -- Some event shown has the same key, which is the thread or the object, and the number directly before.
 abbrev pub IsShownBefore : (Entry → ℕ) → (Entry → ℕ) → List Entry → Entry → Type 0

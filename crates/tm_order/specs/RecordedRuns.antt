@@ -1,11 +1,10 @@
 -- From what each thread and each object recorded, apart from each other, to one run.
 use Rattle.std.specs.Prelude.{◌≡◌, ℕ, ◌<◌, ◌≤◌, List, [], ◌++◌, length, Contains}
 use Rattle.tm_base.specs.declared.events.Entry.{Entry}
-use Rattle.tm_base.specs.Orders.{StandsOnce, of_object, of_thread}
+use Rattle.tm_base.specs.Orders.{StandsOnce, of_object, of_thread, KeepsPredecessors}
 use Rattle.tm_text.specs.Exercises.{ExerciseView}
 use Rattle.tm_replay.specs.JointStates.{JointState}
 use Rattle.tm_replay.specs.JointSteps.{IsJointRun}
-use Rattle.tm_order.specs.LinearExtensions.{KeepsPredecessors}
 use Rattle.tm_order.specs.Ready.{NoneIsReady}
 use Rattle.tm_order.specs.Records.{IsClocked, IsReached, IsRecorded}
 use Rattle.tm_order.specs.Interleavings.{AreInRange}

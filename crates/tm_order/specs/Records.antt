@@ -1,7 +1,8 @@
 -- What each thread and each object of an exercise recorded, as lists of events of their own.
-use Rattle.std.specs.Prelude.{◌≡◌, ℕ, suc, ◌≤◌, max, List, ◌∷◌, ◌++◌, fold, length, slice_get, Some}
+use Rattle.std.specs.Prelude.{◌≡◌, ℕ, suc, ◌≤◌, max, List, ◌∷◌, ◌++◌, length, slice_get, Some}
 use Rattle.tm_base.specs.declared.events.Entry.{Entry}
 use Rattle.tm_base.specs.Histories.{Label, HistoryState, IsHistory, object_at}
+use Rattle.tm_base.specs.Orders.{last_stamp}
 use Rattle.tm_text.specs.declared.exercises.Declaration.{Declaration}
 use Rattle.tm_text.specs.Exercises.{ExerciseView}
 use Rattle.tm_replay.specs.JointStates.{JointState, ThreadState, ObjectState}
@@ -28,10 +29,6 @@ pub record IsReached (x : ExerciseView) (made seen : ℕ → List Entry) (j : Jo
   pub objects : (o : ℕ) (d : Declaration) → slice_get x.objects o ≡ Some d
       → (p : HistoryState) × IsHistory (label_of x o d) (seen o) p × (slice_get j.objects o ≡ Some (object_state_at x o d p))
   pub threads : (t : ℕ) → t ≤ length x.programs → (s : ThreadState) × IsThreadRun x t (made t) s × (slice_get j.threads t ≡ Some s)
-
--- The stamp of the last of some events, or 0 where there is none.
-abbrev pub last_stamp : List Entry → ℕ
-last_stamp es = fold (λ stamp e. e.stamp) 0 es
 
 -- The event's stamp is 1 plus the greater of the last stamps of the events before it in its thread and of
 -- those before it at its object: Lamport's rule for clocks (CACM 1978).

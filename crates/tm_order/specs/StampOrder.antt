@@ -1,20 +1,11 @@
 -- The order of events by their stamps.
-use Rattle.std.specs.Prelude.{◌≡◌, ◌<◌, ◌≤◌, ◌⊎◌, List, Contains, AllPairs, IsPermutation}
+use Rattle.std.specs.Prelude.{◌≡◌, List, AllPairs, IsPermutation}
 use Rattle.tm_base.specs.declared.events.Entry.{Entry}
-use Rattle.tm_base.specs.Orders.{HappenedBefore, IsDirect, IsWellPlaced}
+use Rattle.tm_base.specs.Orders.{HappenedBefore, IsWellPlaced, IsNotLater, StampsRise}
 use Rattle.tm_text.specs.Exercises.{ExerciseView}
 use Rattle.tm_replay.specs.JointStates.{JointState}
 use Rattle.tm_replay.specs.JointSteps.{IsJointRun}
 use Rattle.tm_order.specs.LinearExtensions.{IsLinearExtension}
-
--- Lamport's clock condition, for direct predecessors: each event's stamp is greater than theirs.
-abbrev pub StampsRise : List Entry → Type 0
-StampsRise es = (a b : Entry) → Contains es a → Contains es b → IsDirect a b → a.stamp < b.stamp
-
--- The first event has the smaller stamp, or of equal stamps no greater thread number: Lamport's total order
--- (CACM 1978), in which threads break the ties.
-abbrev pub IsNotLater : Entry → Entry → Type 0
-IsNotLater a b = (a.stamp < b.stamp) ⊎ ((a.stamp ≡ b.stamp) × (a.thread ≤ b.thread))
 
 -- The events stand by rising stamp, and then by thread number.
 abbrev pub IsInStampOrder : List Entry → Type 0

@@ -1,6 +1,6 @@
 -- What contracts see of a source and of a sink in memory.
 use Rattle.std.specs.Prelude.{ℕ, ◌-◌, ◌<◌, ◌⊎◌, List, [], ◌++◌, length, drop, Contains}
-use Rattle.tm_outside.specs.Faults.{next_count}
+use Rattle.tm_base.specs.Counters.{next_count}
 
 -- A source: the bytes that are left, how many reads there were, the numbers from 1 of the reads that
 -- fail, and how many reads failed.

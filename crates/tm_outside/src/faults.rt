@@ -1,5 +1,5 @@
 ghost use Rattle.std.specs.Prelude.{◌≡◌, ◌↔◌, IsTrue, Contains};
-ghost use Rattle.tm_outside.specs.Faults.{next_count};
+ghost use Rattle.tm_base.specs.Counters.{next_count};
 
 /// A read or a write failed outside. The count of faults of its source or sink rose in that call.
 #[derive(Clone, Copy, Debug, PartialEq, Eq)]

@@ -1,5 +1,5 @@
 ghost use Rattle.std.specs.Prelude.{◌≡◌, ◌↔◌, ◌⊎◌, ◌<◌, ◌≤◌, length, take, Some, IfOk, OnOk, OnErr, IsErr};
-ghost use Rattle.tm_outside.specs.Faults.{next_count};
+ghost use Rattle.tm_base.specs.Counters.{next_count};
 ghost use Rattle.tm_outside.specs.Appending.{Appends};
 ghost use Rattle.tm_outside.specs.MemoryStates.{new_sink, RefusesPiece, after_write, after_failed_write};
 

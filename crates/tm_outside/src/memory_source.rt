@@ -1,5 +1,5 @@
 ghost use Rattle.std.specs.Prelude.{◌≡◌, ◌↔◌, ◌<◌, ◌≤◌, ◌++◌, length, take, drop, min, IfOk, OnOk, OnErr, IsErr};
-ghost use Rattle.tm_outside.specs.Faults.{next_count};
+ghost use Rattle.tm_base.specs.Counters.{next_count};
 ghost use Rattle.tm_outside.specs.Taking.{Takes, IsAtEnd};
 ghost use Rattle.tm_outside.specs.MemoryStates.{new_source, FailsNext, after_read, after_failed_read};
 

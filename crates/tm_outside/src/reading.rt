@@ -1,5 +1,5 @@
 ghost use Rattle.std.specs.Prelude.{◌≡◌, ℕ, ◌+◌, ◌^◌, ◌<◌, ◌≤◌, ◌++◌, List, length, IfOk, OnOk, IsErrOf, vec_len};
-ghost use Rattle.tm_outside.specs.Faults.{next_count};
+ghost use Rattle.tm_base.specs.Counters.{next_count};
 ghost use Rattle.tm_outside.specs.Taking.{Takes, TakesAtMost, TakesFirst, IsAtEnd};
 ghost use Rattle.tm_outside.specs.ReadSteps.{ReadsMore};
 

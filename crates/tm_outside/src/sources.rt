@@ -1,5 +1,5 @@
 ghost use Rattle.std.specs.Prelude.{◌≡◌, ℕ, ◌<◌, ◌≤◌, List, length, take, Option, IfOk, OnOk, OnErr};
-ghost use Rattle.tm_outside.specs.Faults.{next_count};
+ghost use Rattle.tm_base.specs.Counters.{next_count};
 ghost use Rattle.tm_outside.specs.Taking.{Takes, IsAtEnd};
 
 use crate::Failed;

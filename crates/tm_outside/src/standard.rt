@@ -1,6 +1,6 @@
 ghost use Rattle.std.specs.Prelude.{◌≡◌, ◌<◌, ◌≤◌, length, IfOk, OnOk, OnErr};
 ghost use Rattle.std.specs.Io.KnownBytes.{ReadConsumes, WriteAppends};
-ghost use Rattle.tm_outside.specs.Faults.{next_count};
+ghost use Rattle.tm_base.specs.Counters.{next_count};
 
 use crate::faults::one_more;
 use crate::{Failed, Sink, Source};

@@ -10,7 +10,7 @@ use Rattle.tm_base.specs.declared.events.Entry.{Entry}
 use Rattle.tm_base.specs.declared.asks.Ask.TheVariants as ask
 use Rattle.tm_base.specs.Histories.{Lawful}
 use Rattle.tm_laws.specs.Counts.{is_wait}
-use Rattle.tm_laws.specs.Tidy.{Moves, is_stop}
+use Rattle.tm_laws.specs.Tidy.{Moves}
 use Rattle.tm_laws.specs.ThreadObjects.{is_end}
 use Rattle.tm_laws.proofs.Counting.{grant-plain}
 use Rattle.tm_text.specs.Exercises.{ExerciseView, IsWellFormed, own_of}
@@ -18,7 +18,7 @@ use Rattle.tm_programs.specs.Programs.{Rest, next_ask}
 use Rattle.tm_replay.specs.declared.phases.Phase.{Phase}
 use Rattle.tm_replay.specs.declared.phases.Phase.TheVariants as phase
 use Rattle.tm_replay.specs.JointStates.{JointState, ThreadState, ObjectState}
-use Rattle.tm_base.specs.Fits.{is_call}
+use Rattle.tm_base.specs.Fits.{is_call, is_stop}
 use Rattle.tm_replay.specs.JointSteps.{JointStep, stepped, entered, phase_by, phase_after}
 use Rattle.tm_replay.specs.SoundStates.{IsSoundJoint, is_main}
 use Rattle.tm_replay.specs.Work.{work_in, work_of, stop_of, work}

@@ -9,9 +9,8 @@ use Rattle.tm_base.specs.declared.asks.Ask.{Ask}
 use Rattle.tm_base.specs.declared.asks.Ask.TheVariants as ask
 use Rattle.std.proofs.lemmas.Option.{slice_get-map}
 use Rattle.tm_base.specs.Bodies.{IsAskedAmong}
-use Rattle.tm_base.specs.Fits.{fits, is_call}
+use Rattle.tm_base.specs.Fits.{fits, is_call, is_stop}
 use Rattle.tm_laws.specs.Counts.{is_wait}
-use Rattle.tm_laws.specs.Tidy.{is_stop}
 use Rattle.tm_laws.specs.ThreadObjects.{is_begin, is_end}
 use Rattle.tm_text.specs.declared.exercises.Declaration.{Declaration}
 use Rattle.tm_programs.specs.Calls.{AllCallsPass}

@@ -7,8 +7,9 @@ use Rattle.tm_base.specs.declared.operations.Op.TheVariants as op
 use Rattle.tm_base.specs.declared.events.Entry.{Entry}
 use Rattle.tm_base.specs.States.{KindState, is_pending}
 use Rattle.tm_base.specs.Histories.{Lawful}
+use Rattle.tm_base.specs.Fits.{is_stop}
 use Rattle.tm_laws.specs.Counts.{is_wait}
-use Rattle.tm_laws.specs.Tidy.{Moves, is_stop}
+use Rattle.tm_laws.specs.Tidy.{Moves}
 use Rattle.tm_laws.specs.ThreadObjects.{has_begun, has_ended, is_begin, is_end}
 use Rattle.tm_laws.proofs.LawfulMoves.{Lawful-moves}
 use Rattle.tm_laws.proofs.Begun.{Noted, Lawful-noted, End-plain}

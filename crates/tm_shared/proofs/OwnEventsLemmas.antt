@@ -11,14 +11,15 @@ use Rattle.tm_base.specs.States.{KindState, State, ThreadObjectState, start_kind
 use Rattle.tm_base.specs.Machines.{IsInTurn}
 use Rattle.tm_base.specs.Runs.{Leads}
 use Rattle.tm_base.specs.Histories.{Label, HistoryState, Follows, IsHistory, Lawful, first_history_state, object_at}
-use Rattle.tm_base.specs.Orders.{of_thread}
+use Rattle.tm_base.specs.Orders.{of_thread, last_stamp}
+use Rattle.tm_base.specs.Fits.{is_stop}
 use Rattle.tm_laws.specs.Counts.{is_wait}
-use Rattle.tm_laws.specs.Tidy.{IsSound, IsStateOf, is_stop}
+use Rattle.tm_laws.specs.Tidy.{IsSound, IsStateOf}
 use Rattle.tm_laws.specs.ThreadObjects.{has_begun, has_ended, is_begin, is_end}
 use Rattle.tm_laws.proofs.Begun.{Begin-turn, End-turn, Lawful-noted}
 use Rattle.tm_laws.proofs.Reaching.{Follows-moves}
 use Rattle.tm_laws.proofs.StartStateLemmas.{start-free, start-sound}
-use Rattle.tm_shared.specs.OwnEvents.{ends_waiting, last_stamp, has_stop, has_begin, has_end, IsInTurnAfter, EventsTell}
+use Rattle.tm_shared.specs.OwnEvents.{ends_waiting, has_stop, has_begin, has_end, IsInTurnAfter, EventsTell}
 
 -- the events of a thread, after one that is its own or not
 own-here : (e : Entry) (es : List Entry) (t : ℕ) → e.thread ≡ t → of_thread (e ∷ es) t ≡ e ∷ of_thread es t

@@ -5,9 +5,10 @@ use Rattle.tm_base.specs.declared.events.Entry.{Entry}
 use Rattle.tm_base.specs.States.{is_waiting}
 use Rattle.tm_base.specs.Histories.{Label, HistoryState, IsHistory}
 use Rattle.tm_base.specs.Tickets.{TicketView, advanced}
+use Rattle.tm_base.specs.Orders.{last_stamp}
 use Rattle.tm_turn.specs.Prefixes.{StartsWith}
 use Rattle.tm_turn.specs.Passes.{PassView, mine}
-use Rattle.tm_shared.specs.OwnEvents.{last_stamp, has_stop}
+use Rattle.tm_shared.specs.OwnEvents.{has_stop}
 
 -- The events are a legal history of the object.
 abbrev pub IsLegal : Label → List Entry → Type 0

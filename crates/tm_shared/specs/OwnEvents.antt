@@ -6,22 +6,17 @@ use Rattle.tm_base.specs.declared.operations.Op.TheVariants as op
 use Rattle.tm_base.specs.declared.kinds.Kind.{Kind}
 use Rattle.tm_base.specs.declared.kinds.Kind.TheVariants as kind
 use Rattle.tm_base.specs.declared.events.Entry.{Entry}
-use Rattle.tm_base.specs.Fits.{fits}
+use Rattle.tm_base.specs.Fits.{fits, is_stop}
 use Rattle.tm_base.specs.States.{is_pending}
 use Rattle.tm_base.specs.Machines.{CanStep, is_step}
 use Rattle.tm_base.specs.Histories.{Label, HistoryState, IsHistory, object_at}
-use Rattle.tm_base.specs.Orders.{of_thread}
+use Rattle.tm_base.specs.Orders.{of_thread, last_stamp}
 use Rattle.tm_laws.specs.Counts.{is_wait}
-use Rattle.tm_laws.specs.Tidy.{is_stop}
 use Rattle.tm_laws.specs.ThreadObjects.{is_begin, is_end}
 
 -- The last event's reply is `wait`.
 abbrev pub ends_waiting : List Entry → Bool
 ends_waiting es = fold (λ waits e. is_wait e.reply) false es
-
--- The last event's stamp, 0 where there is none.
-abbrev pub last_stamp : List Entry → ℕ
-last_stamp es = fold (λ stamp e. e.stamp) 0 es
 
 -- One of the events is a `stop`, a `begin` or an `end`.
 abbrev pub has_stop : List Entry → Bool

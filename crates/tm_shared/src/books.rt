@@ -1,10 +1,10 @@
 ghost use Rattle.std.specs.Prelude.{◌≡◌, ◌<◌, ◌^◌, ◌||◌, None, Some, true, is_none, IfNone, IfOk, IfSome, IsOk, OnErr};
-ghost use Rattle.tm_base.specs.Orders.{of_thread};
+ghost use Rattle.tm_base.specs.Orders.{of_thread, last_stamp};
 ghost use Rattle.tm_base.specs.declared.operations.Op.TheVariants as op;
 ghost use Rattle.tm_book.specs.Books.{HasRoom, label_of};
 ghost use Rattle.tm_laws.specs.ThreadObjects.{is_begin, is_end};
 ghost use Rattle.tm_shared.specs.Calls.{IsMade, StillWaits};
-ghost use Rattle.tm_shared.specs.OwnEvents.{MayCall, ends_waiting, has_stop, last_stamp};
+ghost use Rattle.tm_shared.specs.OwnEvents.{MayCall, ends_waiting, has_stop};
 
 use tm_base::{Entry, NoMemory, Op, Ticket};
 use tm_book::Book;

@@ -1,9 +1,10 @@
 ghost use Rattle.std.specs.Prelude.{◌≡◌, ◌<◌, ◌^◌, ◌||◌, None, Some, false, true, IfErr, IfNone, IfOk, IfSome, IsOk, OnErr, OnOk};
+ghost use Rattle.tm_base.specs.Orders.{last_stamp};
 ghost use Rattle.tm_base.specs.declared.operations.Op.TheVariants as op;
 ghost use Rattle.tm_laws.specs.ThreadObjects.{is_begin, is_end};
 ghost use Rattle.tm_shared.specs.Calls.{IsAdded, IsFirstStop, LostTurn, TookTurn, TookTurns};
 ghost use Rattle.tm_shared.specs.Faults.{FailedToBegin, FailedToFinish};
-ghost use Rattle.tm_shared.specs.OwnEvents.{MayCall, ends_waiting, has_stop, last_stamp};
+ghost use Rattle.tm_shared.specs.OwnEvents.{MayCall, ends_waiting, has_stop};
 ghost use Rattle.tm_turn.specs.Passes.{IsPassOf, mine};
 
 use crate::faults::{FinishFault, TryFault};

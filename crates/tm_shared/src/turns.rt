@@ -1,10 +1,11 @@
 ghost use Rattle.std.specs.Prelude.{◌≡◌, ◌<◌, ◌^◌, ◌||◌, None, Some, true, false, is_none, IfNone, IfSome, IsOk};
 ghost use Rattle.std.specs.Result.{result_ok};
+ghost use Rattle.tm_base.specs.Orders.{last_stamp};
 ghost use Rattle.tm_base.specs.declared.operations.Op.TheVariants as op;
 ghost use Rattle.tm_book.specs.Books.{label_of};
 ghost use Rattle.tm_laws.specs.ThreadObjects.{is_begin, is_end};
 ghost use Rattle.tm_shared.specs.Calls.{IsLegal, StillWaits};
-ghost use Rattle.tm_shared.specs.OwnEvents.{MayCall, ends_waiting, has_stop, last_stamp};
+ghost use Rattle.tm_shared.specs.OwnEvents.{MayCall, ends_waiting, has_stop};
 ghost use Rattle.tm_shared.specs.Turns.{GaveBack, with_made};
 ghost use Rattle.tm_turn.specs.Passes.{IsHeldBy, IsPassOf, mine};
 

@@ -1,8 +1,10 @@
 -- Watchers of a run's events: what a watcher is after an entry, and which of a list are left.
-use Rattle.std.specs.Prelude.{ℕ, ◌+◌, ◌-◌, ◌^◌, min, Bool, true, false, not, List, [], ◌∷◌, if◌then◌else◌}
+use Rattle.std.specs.Prelude.{ℕ, Bool, true, false, not, List, [], ◌∷◌, if◌then◌else◌}
 use Rattle.tm_base.specs.declared.operations.Op.{Op}
 use Rattle.tm_base.specs.declared.operations.Op.TheVariants as op
 use Rattle.tm_base.specs.declared.events.Entry.{Entry}
+use Rattle.tm_base.specs.Fits.{is_stop}
+use Rattle.tm_base.specs.Counters.{next_count}
 use Rattle.tm_watch.specs.declared.verdicts.Verdict.{Verdict}
 use Rattle.tm_watch.specs.declared.verdicts.Verdict.TheVariants.{Keep, Retire}
 
@@ -13,10 +15,6 @@ pub record Watch : Type 0 where
   pub count : ℕ
   pub next : List ℕ → Entry → List ℕ
   pub retires : List ℕ → Entry → Bool
-
--- The count one later: the same where it has come to its last value.
-abbrev pub next_count : ℕ → ℕ
-next_count count = min (count + 1) (2 ^ 64 - 1)
 
 -- The watcher once it has seen the entry.
 abbrev pub after_entry : Watch → Entry → Watch
@@ -49,11 +47,6 @@ after_entries w (e ∷ es) = after_entries (after_entry w e) es
 abbrev pub stays_through : Watch → List Entry → Bool
 stays_through w [] = true
 stays_through w (e ∷ es) = if stays_at w e then stays_through (after_entry w e) es else false
-
--- The operation is a `stop`.
-abbrev pub is_stop : Op → Bool
-is_stop op.Stop = true
-is_stop o = false
 
 -- A tally's state is one number, which counts all entries. It never retires.
 abbrev pub counted : List ℕ → Entry → List ℕ

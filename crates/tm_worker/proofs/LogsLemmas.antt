@@ -10,10 +10,11 @@ use Rattle.tm_base.specs.Histories.{Label}
 use Rattle.tm_base.specs.Machines.{is_in}
 use Rattle.tm_base.specs.Runs.{Leads}
 use Rattle.tm_base.specs.Tickets.{TicketView, opening, waits_after}
+use Rattle.tm_base.specs.Orders.{last_stamp}
 use Rattle.tm_laws.specs.Counts.{is_wait}
 use Rattle.tm_laws.proofs.RunsLemmas.{Leads-snoc, Leads-map}
 use Rattle.tm_shared.specs.Calls.{IsAdded, TookTurn, LostTurn}
-use Rattle.tm_shared.specs.OwnEvents.{ends_waiting, last_stamp}
+use Rattle.tm_shared.specs.OwnEvents.{ends_waiting}
 use Rattle.tm_turn.specs.Passes.{PassView, mine}
 use Rattle.tm_turn.specs.Prefixes.{StartsWith}
 use Rattle.tm_turn.proofs.PrefixesLemmas.{StartsWith-self, StartsWith-trans}

@@ -3,11 +3,11 @@ use Rattle.std.specs.Prelude.{◌≡◌, ℕ, suc, ◌<◌, ◌≤◌, ◌+◌, 
 use Rattle.tm_base.specs.declared.operations.Op.{Op}
 use Rattle.tm_base.specs.declared.events.Entry.{Entry}
 use Rattle.tm_base.specs.Machines.{is_in}
-use Rattle.tm_base.specs.Orders.{of_object}
+use Rattle.tm_base.specs.Orders.{of_object, last_stamp}
 use Rattle.tm_base.specs.Runs.{Leads}
 use Rattle.tm_base.specs.Tickets.{TicketView, opening, advanced}
 use Rattle.tm_ring.specs.Rings.{OutboxView}
-use Rattle.tm_shared.specs.OwnEvents.{ends_waiting, last_stamp}
+use Rattle.tm_shared.specs.OwnEvents.{ends_waiting}
 use Rattle.tm_turn.specs.Passes.{PassView, mine}
 use Rattle.tm_turn.specs.Prefixes.{StartsWith}
 

@@ -1,5 +1,3 @@
-use Rattle.std.proofs.Common.{sym, subst}
-use Rattle.tm_worker.specs.Standings.{HasOwn}
 use Rattle.tm_worker.proofs.TurnsLemmas.{suits_later}
 use Rattle.tm_worker.proofs.tests.turned.Goals as goal
 

@@ -1,7 +1,7 @@
 use Rattle.std.proofs.Common.{◌≡◌, ◌<◌, ℕ, inl, inr, Some, slice_get, get_or, length, arith}
 use Rattle.std.proofs.lemmas.Option.{slice_get_read}
+use Rattle.tm_base.specs.Orders.{IsNotLater}
 use Rattle.tm_merge.specs.declared.arrivals.Arrivals.{Arrivals}
-use Rattle.tm_merge.specs.Showing.{IsSooner}
 use Rattle.tm_merge.proofs.ListingLemmas.{listed_at}
 use Rattle.tm_merge.proofs.ReadyThreadsLemmas.{better-none, better-first, better-new, better-old}
 use Rattle.tm_merge.proofs.arrivals.Arrivals.better.Goals as goal
@@ -32,7 +32,7 @@ returns-then-next-other-3 c =
 
 pub returns : goal.returns
 returns c =
-    let sooner : IsSooner c.in-Some-best.other.entry c.in-Some.next.entry =
+    let sooner : IsNotLater c.in-Some-best.other.entry c.in-Some.next.entry =
     elim c.else-next-other-2.branch [
       | else-next-other-2-via-then-next-other-2+else-next-other-3 w ↦ inr (omega (arith, w.if-next-other-2.true), omega (arith, w.if-next-other-3.false))
       | else-next-other-2-via-else-next-other-2 w ↦ inl (omega (arith, c.if-next-other.false, w.if-next-other-2.false))

@@ -1,6 +1,7 @@
 use Rattle.std.proofs.Common.{sym, subst}
+use Rattle.tm_base.specs.Orders.{StampsRise}
 use Rattle.tm_merge.specs.MergerViews.{arrived}
-use Rattle.tm_merge.specs.Numbering.{HaveOwnPlaces, StampsRise}
+use Rattle.tm_merge.specs.Numbering.{HaveOwnPlaces}
 use Rattle.tm_merge.proofs.IntakeLemmas.{arrived_same}
 use Rattle.tm_merge.proofs.OrderLemmas.{arrived_own}
 use Rattle.tm_merge.proofs.mergers.Merger.held_count.Goals as goal
