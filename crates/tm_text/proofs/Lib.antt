@@ -14,16 +14,16 @@ mod ObjectsLemmas
 mod OwnNumbers
 mod SpelledLemmas
 mod ReadingsLemmas
-mod ThreadNumbers
+pub mod ThreadNumbers
 mod PrinterLemmas
 mod SpelledForwards
-mod NamedNumbers
+pub mod NamedNumbers
 mod SaidValueLemmas
 mod SaidForwards
 mod SpelledBack
 mod SpelledTexts
-mod JoinedWords
-mod WrittenValues
+pub mod JoinedWords
+pub mod WrittenValues
 mod FittingValues
 mod SoundLines
 mod SoundValues

@@ -39,7 +39,7 @@ name_of-number ds name h =
 abbrev pub Once : List Declaration → Type 0
 Once ds = (o p : ℕ) (c d : Declaration) → slice_get ds o ≡ Some c → slice_get ds p ≡ Some d → c.name ≡ d.name → o ≡ p
 
-number_back : (n : ℕ) (ds : List Declaration) → Once ds → (o : ℕ) (d : Declaration) → slice_get ds o ≡ Some d → number_in n ds d.name ≡ Some (n + o)
+pub number_back : (n : ℕ) (ds : List Declaration) → Once ds → (o : ℕ) (d : Declaration) → slice_get ds o ≡ Some d → number_in n ds d.name ≡ Some (n + o)
 number_back n [] once o d at = absurd (cc)
 number_back n (c ∷ ds) once zero d at =
     let same : c ≡ d = cc in

@@ -1,6 +1,6 @@
 -- A well-formed exercise is read back from the lines that spell it, and so no two are spelled alike.
 use Rattle.std.proofs.lemmas.Option.{slice_get-map}
-use Rattle.std.proofs.Common.{option_map, ◌≡◌, ℕ, zero, suc, nat_abs, Bool, true, false, nat_lt, List, [], ◌∷◌, ◌++◌, length, map, filter_map, slice_get, slice_index_or, Option, Some, None, option_and_then, refl, sym, ap, subst, ◌∙◌, arith}
+use Rattle.std.proofs.Common.{option_map, ◌≡◌, ℕ, zero, suc, nat_abs, Bool, true, false, nat_lt, List, [], ◌∷◌, ◌++◌, length, map, filter_map, slice_get, Option, Some, None, option_and_then, refl, sym, ap, subst, ◌∙◌, arith}
 use Rattle.std.specs.List.{cons_option, list_all}
 use Rattle.std.proofs.lemmas.Bool.{and_parts, cond_both}
 use Rattle.std.proofs.lemmas.List.{append_assoc}

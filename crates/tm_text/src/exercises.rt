@@ -1,8 +1,10 @@
-ghost use Rattle.std.specs.Prelude.{◌≡◌, ◌≤◌, ◌<◌, ℕ, suc, IfSome, length, map, slice_get, Some};
+ghost use Rattle.std.specs.Prelude.{◌≡◌, ◌≤◌, ◌<◌, IfOk, IfSome, length, map, slice_get};
 ghost use Rattle.tm_text.specs.Exercises.{ExerciseView, IsWellFormed, own_of, instructions_of};
 
+use crate::objects::owns;
+use std::alloc::Global;
 use std::marker::Model;
-use tm_base::{Kind, Name};
+use tm_base::{Kind, Name, NoMemory};
 use tm_programs::Instruction;
 
 /// An object as the text declares it. A thread's object has the thread's name.
@@ -34,25 +36,24 @@ impl Model for Exercise {
 }
 
 impl Exercise {
-    /// The exercise of these objects and programs. `owns` has the numbers of the threads' own
-    /// objects.
-    pub(crate) fn from_parts(
+    /// The exercise of these objects, in order of declaration, and of these programs, from thread 1.
+    /// `NoMemory` only where memory runs out.
+    pub fn new(
+        alloc: Global,
         objects: Vec<Declaration>,
         programs: Vec<Vec<Instruction>>,
-        owns: Vec<u32>,
-    ) -> Exercise
+    ) -> Result<Exercise, NoMemory>
         requires well_formed { IsWellFormed
             (record { objects = objects.items; programs = map (λ p. p.items) programs.items }) }
-        requires owns { (t : ℕ) → t < length programs.items
-            → slice_get owns.items t ≡ Some (own_of objects.items (suc t)) }
-        requires own_count { length owns.items ≡ length programs.items }
-        ensures { result ≡ record { objects = objects.items; programs = map (λ p. p.items) programs.items } }
+        ensures { IfOk result (λ exercise.
+            exercise ≡ record { objects = objects.items; programs = map (λ p. p.items) programs.items }) }
     {
-        Exercise {
+        let owns = owns(alloc, objects.as_slice())?;
+        Ok(Exercise {
             objects,
             programs,
             owns,
-        }
+        })
     }
 
     /// How many threads it has, `main` not counted: at most `MOST_THREADS`.

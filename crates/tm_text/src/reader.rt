@@ -6,7 +6,7 @@ ghost use Rattle.tm_text.specs.Texts.{IsExercise};
 
 use crate::exercises::Exercise;
 use crate::instructions::instruction;
-use crate::objects::{Objects, owns};
+use crate::objects::Objects;
 use crate::programs::Programs;
 use crate::text_faults::TextFault;
 use std::alloc::Global;
@@ -26,8 +26,7 @@ pub fn read(alloc: Global, bytes: &[u8]) -> Result<Exercise, TextFault>
     }
     let (objects, programs) = parts(alloc, bytes)?;
     let declarations = objects.into_declarations();
-    let owns = owns(alloc, declarations.as_slice())?;
-    Ok(Exercise::from_parts(declarations, programs, owns))
+    Ok(Exercise::new(alloc, declarations, programs)?)
 }
 
 /// The objects of the text, and the programs of its threads in order.
