@@ -38,6 +38,14 @@ detail_text x (reply.Gave thread) = codes " " ++ thread_name x thread
 detail_text x (reply.Got value) = codes " " ++ signed_decimal value
 detail_text x r = []
 
+-- An operation: its word and its operand.
+abbrev pub operation_text : Op → List ℕ
+operation_text o = word_of (opcode_of o) ++ operand_text o
+
+-- A reply: its word, and what it names or brings.
+abbrev pub reply_text : ExerciseView → Reply → List ℕ
+reply_text x r = reply_word r ++ detail_text x r
+
 -- An event's places: the thread's name and the place in the thread, the object's name and the place
 -- there.
 abbrev pub places_text : ExerciseView → Entry → List ℕ

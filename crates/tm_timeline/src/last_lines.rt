@@ -1,7 +1,7 @@
 ghost use Rattle.std.specs.Prelude.{◌≡◌, ◌≤◌, ◌++◌, All, IfOk, OnOk, codes, length};
-ghost use Rattle.std.specs.Fmt.{decimal};
 ghost use Rattle.tm_timeline.specs.Rows.{last_line_of, names_text, thread_name, IsProgramThread};
 
+use crate::event_texts::append_number;
 use crate::pieces::put_thread;
 use crate::row_texts::RowText;
 use crate::words::end_word;
@@ -22,24 +22,29 @@ pub fn last_line(
     ensures { IfOk result (λ bytes. bytes ≡ last_line_of exercise.now end n cut.now) }
 {
     let mut out = Vec::new(alloc);
-    out.extend_from_slice(end_word(end))?;
-    out.extend_from_slice(b" ")?;
-    push_number(&mut out, n)?;
-    match end {
-        End::Done => {}
-        End::Stuck | End::Budget => push_names(&mut out, exercise, cut)?,
-    }
-    out.extend_from_slice(b"\n")?;
+    push_last_line(&mut out, exercise, end, n, cut)?;
     Ok(Bytes::from_vec(out))
 }
 
-/// Appends the number in decimal.
-fn push_number(out: &mut Vec<u8>, number: u64) -> Result<(), NoMemory>
-    ensures { OnOk result (out.new.items ≡ out.old.items ++ decimal number) }
+/// Appends the last line of a run of `n` events.
+pub fn push_last_line(
+    out: &mut Vec<u8>,
+    exercise: &Exercise,
+    end: End,
+    n: u64,
+    cut: &[u32],
+) -> Result<(), NoMemory>
+    requires { All (IsProgramThread exercise.now) cut.now }
+    ensures { OnOk result (out.new.items ≡ out.old.items ++ last_line_of exercise.now end n cut.now) }
 {
-    let mut text = RowText::empty();
-    text.put_number(number);
-    out.extend_from_slice(text.as_slice())?;
+    out.extend_from_slice(end_word(end))?;
+    out.extend_from_slice(b" ")?;
+    append_number(out, n)?;
+    match end {
+        End::Done => {}
+        End::Stuck | End::Budget => push_names(out, exercise, cut)?,
+    }
+    out.extend_from_slice(b"\n")?;
     Ok(())
 }
 

@@ -73,7 +73,7 @@ fn put_row(text: &mut RowText, exercise: &Exercise, n: u64, entry: &Entry, bars:
 }
 
 /// Puts the text of an event in front.
-fn put_event(text: &mut RowText, exercise: &Exercise, entry: &Entry)
+pub fn put_event(text: &mut RowText, exercise: &Exercise, entry: &Entry)
     requires room { length text.old ≤ 68 }
     requires object { entry.now.object < length exercise.now.objects }
     requires thread { entry.now.thread ≤ length exercise.now.programs }

@@ -1,5 +1,5 @@
 use crate::words::reply_word;
-use crate::{append_row, last_line, row};
+use crate::{append_row, last_line, row, summary};
 use std::process::Abort;
 use std::test::Fail;
 use tm_base::{Bar, End, Entry, Op, Reply};
@@ -166,5 +166,40 @@ fn a_last_line_names_the_threads_that_were_cut(rt: HostRuntime) -> Result<(), Fa
     assert_eq!(rt; stuck.as_slice(), b"stuck 12 A B\n".as_slice());
     let budget = last_line(rt.alloc(), &exercise, End::Budget, 1000000, &[2])?;
     assert_eq!(rt; budget.as_slice(), b"budget 1000000 B\n".as_slice());
+    Ok(())
+}
+
+#[test]
+fn a_summary_counts_calls_and_waits_and_has_the_greatest_stamp(
+    rt: HostRuntime,
+) -> Result<(), Fail> {
+    let exercise = read(rt.alloc(), TEXT.as_bytes())?;
+    assert_eq!(rt; exercise.objects(), 3);
+    assert_eq!(rt; exercise.threads(), 2);
+    let table = [
+        (Op::Begin, Reply::Ok, 1),
+        (Op::Begin, Reply::Ok, 1),
+        (Op::Lock, Reply::Ok, 2),
+        (Op::Lock, Reply::Wait, 3),
+        (Op::Stop, Reply::Ok, 9),
+        (Op::Resume, Reply::Stopped, 10),
+        (Op::End { cut: true }, Reply::Cut, 4),
+    ];
+    let mut shown = Vec::new(rt.alloc());
+    for (op, reply, stamp) in table {
+        let entry = Entry {
+            op,
+            reply,
+            stamp,
+            ..START
+        };
+        shown.push(entry)?;
+    }
+    let printed = summary(rt.alloc(), &exercise, shown.as_slice(), End::Stuck, &[2])?;
+    let text = b"threads 2\nobjects 3\ncalls 2\nwaits 1\nstamp 10\nstuck 7 B\n";
+    assert_eq!(rt; printed.as_slice(), text.as_slice());
+    let nothing = summary(rt.alloc(), &exercise, &[], End::Done, &[])?;
+    let text = b"threads 2\nobjects 3\ncalls 0\nwaits 0\nstamp 0\ndone 0\n";
+    assert_eq!(rt; nothing.as_slice(), text.as_slice());
     Ok(())
 }
