@@ -1,0 +1,14 @@
+pub mod NumberedNames
+pub mod PartsLemmas
+pub mod Layouts
+pub mod LayoutParts
+pub mod LayoutExercises
+pub mod LayoutLines
+pub mod Sizes
+pub mod Made
+pub mod RingLayout
+pub mod ReadersLayout
+pub mod CoasterLayout
+pub mod BufferLayout
+pub mod PhilosophersLayout
+pub mod LargeLayout

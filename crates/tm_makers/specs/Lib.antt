@@ -1,0 +1,16 @@
+pub mod LineForms
+pub mod Drafts
+pub mod StoredDrafts
+pub mod Philosophers
+pub mod PhilosopherPrograms
+pub mod Buffers
+pub mod BufferPrograms
+pub mod ReadersAndWriters
+pub mod ReaderPrograms
+pub mod Coasters
+pub mod CoasterPrograms
+pub mod Rings
+pub mod RingPrograms
+pub mod LargeExercises
+pub mod LargePrograms
+pub mod Plans
