@@ -1,0 +1,10 @@
+mod WordLemmas
+mod PlaceLemmas
+mod BarLemmas
+mod NameLemmas
+mod FaultLemmas
+mod TraceableLemmas
+mod WrittenEvents
+mod WrittenParts
+mod WrittenValuesBack
+mod ReadBackLemmas
