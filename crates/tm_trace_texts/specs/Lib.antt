@@ -1,0 +1,4 @@
+pub mod TraceTexts
+pub mod TraceFaults
+pub mod PrintedTraces
+pub mod Readings
