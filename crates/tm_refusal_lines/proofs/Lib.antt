@@ -1,0 +1,4 @@
+pub mod RefusedNames
+pub mod HeldNames
+pub mod IllegalNames
+pub mod FaultNames
