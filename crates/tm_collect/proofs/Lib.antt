@@ -1,4 +1,5 @@
 pub mod SendingLemmas
+pub mod TranscriptsLemmas
 pub mod AdvancingLemmas
 pub mod CollectingLemmas
 pub mod WatchingLemmas

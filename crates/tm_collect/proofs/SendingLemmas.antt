@@ -1,10 +1,10 @@
 -- What is sent in two steps.
 use Rattle.std.proofs.Common.{◌≡◌, ℕ, Bool, true, false, List, [], ◌++◌, MatchBool, refl, sym, ap, ◌∙◌, subst, append_assoc}
 use Rattle.std.proofs.lemmas.Bool.{false≢true}
-use Rattle.tm_outside.specs.Faults.{next_count}
-use Rattle.tm_outside.specs.Appending.{Appends, AppendsProperPrefix}
-use Rattle.tm_outside.proofs.AppendingLemmas.{Appends-none, Appends-trans, AppendsProperPrefix-after, AppendsProperPrefix-more}
-use Rattle.tm_collect.specs.Sending.{Outlet, Sends, SendsPrefix}
+use Rattle.tm_base.specs.Counters.{next_count}
+use Rattle.tm_outside.specs.Appending.{Appends, AppendsPrefix, AppendsProperPrefix}
+use Rattle.tm_outside.proofs.AppendingLemmas.{Appends-none, Appends-trans, AppendsPrefix-none, AppendsPrefix-proper, AppendsPrefix-whole, AppendsProperPrefix-after, AppendsProperPrefix-more}
+use Rattle.tm_collect.specs.Sending.{Outlet, IsSent, Sends, SendsPrefix}
 
 abbrev Fails : Outlet → Outlet → List ℕ → Type 0
 Fails o p bytes = (p.faults ≡ next_count o.faults) × AppendsProperPrefix o.written p.written bytes
@@ -45,3 +45,15 @@ SendsPrefix-join o p q a b s t = record {
 -- nothing was sent of these bytes
 pub SendsPrefix-none : (o : Outlet) (bytes : List ℕ) → SendsPrefix o o bytes
 SendsPrefix-none o bytes = record { prefix = []; back = bytes; split = refl; sent = Sends-none o }
+
+-- what was sent is a prefix of the bytes
+pub Sends-prefix : (o p : Outlet) (bytes : List ℕ) → Sends o p bytes → AppendsPrefix o.written p.written bytes
+Sends-prefix o p bytes sent = by_old o.failed sent
+  where
+    by_new : (g : Bool) → MatchBool g (Fails o p bytes) (Goes o p bytes) → AppendsPrefix o.written p.written bytes
+    by_new true h = AppendsPrefix-proper o.written p.written bytes h.1
+    by_new false h = AppendsPrefix-whole o.written p.written bytes h.1
+
+    by_old : (f : Bool) → MatchBool f (p ≡ o) (IsSent o p bytes) → AppendsPrefix o.written p.written bytes
+    by_old true same = AppendsPrefix-none o.written p.written bytes (ap (λ (q : Outlet). q.written) same)
+    by_old false h = by_new p.failed h

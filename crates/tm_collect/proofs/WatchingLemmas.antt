@@ -1,5 +1,5 @@
 -- What watchers are told, event by event.
-use Rattle.std.proofs.Common.{◌≡◌, ℕ, zero, suc, ◌+◌, ◌≤◌, List, [], ◌∷◌, ◌++◌, length, take, drop, slice_get, Bool, true, false, Some, if◌then◌else◌, refl, sym, ap, ◌∙◌, arith}
+use Rattle.std.proofs.Common.{◌≡◌, ℕ, zero, suc, ◌+◌, ◌≤◌, List, [], ◌∷◌, ◌++◌, take, drop, slice_get, Some, refl, sym, ap, ◌∙◌, arith}
 use Rattle.tm_base.specs.declared.events.Entry.{Entry}
 use Rattle.tm_watch.specs.Watchers.{Watch, told, told_all}
 use Rattle.tm_collect.specs.Watching.{newly}

@@ -1,6 +1,6 @@
 -- What is sent to a sink that may fail.
 use Rattle.std.specs.Prelude.{◌≡◌, ℕ, Bool, List, ◌++◌, Option, MatchBool}
-use Rattle.tm_outside.specs.Faults.{next_count}
+use Rattle.tm_base.specs.Counters.{next_count}
 use Rattle.tm_outside.specs.Appending.{Appends, AppendsProperPrefix}
 
 -- Whether a write has failed, the sink's count of faults, and the bytes that it was given, where it tells them.

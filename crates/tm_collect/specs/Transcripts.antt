@@ -1,6 +1,7 @@
 -- The rows of events.
-use Rattle.std.specs.Prelude.{◌≡◌, ℕ, ◌+◌, List, ◌++◌}
+use Rattle.std.specs.Prelude.{◌≡◌, ℕ, ◌+◌, List, [], ◌++◌}
 use Rattle.tm_base.specs.declared.events.Entry.{Entry}
+use Rattle.tm_base.specs.Runs.{Leads}
 use Rattle.tm_text.specs.Exercises.{ExerciseView}
 use Rattle.tm_timeline.specs.Rows.{row_of}
 use Rattle.tm_replay.specs.JointStates.{JointState, start}
@@ -27,3 +28,7 @@ pub record AddsRow (x : ExerciseView) (p : Transcript) (e : Entry) (q : Transcri
   pub step : JointStep x p.joint e q.joint
   pub count : q.count ≡ p.count + 1
   pub rows : q.rows ≡ p.rows ++ row_of x q.count e (bars_of q.joint)
+
+-- The transcript has the rows of these events.
+abbrev pub AreRows : ExerciseView → List Entry → Transcript → Type 0
+AreRows x es p = Leads (AddsRow x) (transcript_at (first_joint x) []) es p

@@ -85,7 +85,8 @@ impl<'x> Collector<'x> {
 
     /// Shows events until none is ready, each time the one with the least stamp, and of equal stamps the one
     /// with the least thread number; applies them in that order, tells the watchers of each, and writes
-    /// a row for each, unless a write failed. A watcher that retires leaves the list, and the others keep their order. Answers how many were newly shown. It stops before an event that can't happen, whose refusal
+    /// a row for each, unless a write failed. A watcher that retires leaves the list, and the others keep their
+    /// order. Answers how many were newly shown. It stops before an event that can't happen, whose refusal
     /// is kept. Where a refusal was kept before it does nothing, and answers 0. After `NoMemory` the first
     /// bytes of the rows of the events that it newly showed are written; each later call does nothing, and
     /// answers `NoMemory`.

@@ -10,6 +10,7 @@ mod writers;
 pub use collectors::Collector;
 pub use laws::{next_events_are_shown, next_rows_are_begun};
 pub use refusals::Refusal;
+pub use writers::{Stop, Writer};
 
 #[cfg(test)]
 mod tests;

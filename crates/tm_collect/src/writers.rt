@@ -23,14 +23,14 @@ pub enum Stop {
     NoMemory,
 }
 
-/// Applies events and writes their rows: the joint state so far, and whether a write has failed. Each row is
-/// made where the one before it stood.
+/// Applies events and writes their rows: the joint state so far, whether a write has failed, and the line that
+/// was made last. Each is made where the one before it stood.
 #[derive(Drop)]
 pub struct Writer<'x> {
     pub exercise: &'x Exercise,
     pub joint: Joint<'x>,
     pub write_fault: bool,
-    row: Vec<u8>,
+    pub row: Vec<u8>,
 }
 
 impl<'x> Writer<'x> {
@@ -123,7 +123,7 @@ impl<'x> Writer<'x> {
     }
 
     /// Writes the row in one piece, unless a write failed before.
-    fn send_row<K: Sink>(&mut self, sink: &mut K)
+    pub fn send_row<K: Sink>(&mut self, sink: &mut K)
         ensures sent { Sends
             (record { failed = self.old.write_fault; faults = K.fault_count sink.old; written = K.written sink.old })
             (record { failed = self.new.write_fault; faults = K.fault_count sink.new; written = K.written sink.new }) self.old.row.items }

@@ -1,7 +1,7 @@
 -- One turn, and one thread's place in it.
 use Rattle.std.proofs.Common.{◌≡◌, ℕ, List, Some, slice_get, ap, sym, ◌∙◌}
 use Rattle.tm_base.specs.declared.events.Entry.{Entry}
-use Rattle.tm_replay.specs.JointStates.{JointState, ThreadState}
+use Rattle.tm_replay.specs.JointStates.{JointState}
 use Rattle.tm_replay.specs.JointSteps.{Happens}
 use Rattle.tm_session.specs.Turns.{RunState}
 

@@ -25,7 +25,7 @@ use Rattle.tm_replay.specs.Ends.{IsEndedRun, WasStuck, is_cut_phase, is_cut_by_l
 use Rattle.tm_replay.proofs.SliceLemmas.{slice_get-set_cases}
 use Rattle.tm_replay.proofs.JointStartLemmas.{IsSoundJoint-start, mapped-at}
 use Rattle.tm_replay.proofs.ProjectionsLemmas.{runs-keep}
-use Rattle.tm_session.specs.declared.rules.Rules.{Rules}
+use Rattle.tm_base.specs.declared.rules.Rules.{Rules}
 use Rattle.tm_session.specs.Turns.{AreWaited}
 use Rattle.tm_session.specs.Turns.{RunState, first_run_state, BeginsAlone, IsAloneRun, KeepsLimit, Moves, Goes, GoesBy, due_by, due_stops}
 use Rattle.tm_session.proofs.ChoicesLemmas.{chosen-runs, runs-known}

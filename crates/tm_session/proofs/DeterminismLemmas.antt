@@ -16,7 +16,7 @@ use Rattle.tm_base.specs.Fits.{is_call}
 use Rattle.tm_replay.specs.JointSteps.{MayIn, MayAsk, JointStep}
 use Rattle.tm_replay.specs.Bars.{bars_of, is_over}
 use Rattle.tm_replay.specs.SoundStates.{is_main}
-use Rattle.tm_session.specs.declared.rules.Rules.{Rules}
+use Rattle.tm_base.specs.declared.rules.Rules.{Rules}
 use Rattle.tm_session.specs.Choices.{chosen_thread}
 use Rattle.tm_session.specs.NextCalls.{AsksCalls}
 use Rattle.tm_session.specs.Turns.{RunState, first_run_state, BeginsAlone, IsAloneRun, KeepsLimit, Halts, Moves, Goes, GoesBy, due_stops}

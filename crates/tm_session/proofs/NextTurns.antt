@@ -17,7 +17,7 @@ use Rattle.tm_replay.specs.JointSteps.{MayIn, MayAsk, JointStep, entered, steppe
 use Rattle.tm_replay.specs.Bars.{bars_of, is_over}
 use Rattle.tm_replay.proofs.SliceLemmas.{found_at}
 use Rattle.tm_session.specs.declared.next_calls.NextCall.{NextCall}
-use Rattle.tm_session.specs.declared.rules.Rules.{Rules}
+use Rattle.tm_base.specs.declared.rules.Rules.{Rules}
 use Rattle.tm_session.specs.Choices.{chosen_thread, draw_after}
 use Rattle.tm_session.specs.Turns.{AreWaited}
 use Rattle.tm_session.specs.NextCalls.{AsksCalls, GoesOn}

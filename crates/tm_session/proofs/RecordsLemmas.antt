@@ -1,5 +1,5 @@
 -- One event more in books and tickets.
-use Rattle.std.proofs.Common.{◌≡◌, ◌≢◌, ℕ, suc, max, ◌+◌, ◌<◌, ◌≤◌, ◌^◌, ◌==◌, ⊎_elim, List, [], ◌∷◌, ◌++◌, map, length, length-append, Option, Some, slice_get, slice_set, refl, ap, sym, ◌∙◌, subst, arith}
+use Rattle.std.proofs.Common.{◌≡◌, ◌≢◌, ℕ, suc, max, ◌+◌, ◌<◌, ◌≤◌, ◌^◌, ◌==◌, ⊎_elim, List, [], ◌∷◌, ◌++◌, length, length-append, Option, Some, slice_get, slice_set, refl, ap, sym, ◌∙◌, subst, arith}
 use Rattle.std.specs.Option.{option_map}
 use Rattle.std.proofs.lemmas.List.{length-map}
 use Rattle.std.proofs.lemmas.Option.{slice_get-map, slice_get_within}
@@ -7,11 +7,10 @@ use Rattle.tm_base.specs.declared.operations.Op.{Op}
 use Rattle.tm_base.specs.declared.events.Entry.{Entry}
 use Rattle.tm_base.specs.Machines.{ObjectView, changed}
 use Rattle.tm_base.specs.Histories.{CanAnswer}
-use Rattle.tm_base.specs.Tickets.{TicketView, IsReady, advanced, waits_after}
+use Rattle.tm_base.specs.Tickets.{TicketView, IsReady, waits_after}
 use Rattle.tm_book.specs.Books.{BookView, CanEnter}
 use Rattle.tm_replay.specs.JointStates.{JointState, ThreadState, ObjectState}
 use Rattle.tm_replay.specs.JointSteps.{entered, phase_after, stepped}
-use Rattle.tm_replay.specs.SoundStates.{is_main}
 use Rattle.tm_replay.proofs.SliceLemmas.{slice_get-set_cases, slice_get-set_same}
 use Rattle.tm_joint.specs.Readings.{waits_in_phase}
 use Rattle.tm_session.specs.declared.alone_runs.AloneRun.{AloneRun}

@@ -13,7 +13,7 @@ use Rattle.tm_replay.specs.JointStates.{JointState, ThreadState, ObjectState}
 use Rattle.tm_replay.specs.Bars.{bar_of, bar_in, bars_of, waits_in, is_over, is_ended, is_runnable, is_some_queued, has_waiter}
 use Rattle.tm_replay.specs.SoundStates.{IsSoundJoint, waits_at}
 use Rattle.tm_replay.proofs.SliceLemmas.{found_at}
-use Rattle.tm_session.specs.declared.rules.Rules.{Rules}
+use Rattle.tm_base.specs.declared.rules.Rules.{Rules}
 use Rattle.tm_session.specs.Turns.{AreWaited}
 use Rattle.tm_session.specs.Turns.{RunState, Goes, GoesBy, due_stops}
 use Rattle.tm_session.proofs.ChoicesLemmas.{bar-at, chosen-runs, runs-known}

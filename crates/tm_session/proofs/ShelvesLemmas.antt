@@ -1,9 +1,8 @@
 -- The books that a run leaves, and all their entries.
-use Rattle.std.proofs.Common.{◌≡◌, ℕ, zero, suc, ◌<◌, ◌==◌, ⊎_elim, List, [], ◌∷◌, ◌++◌, All, length, flat_map, Contains, Some, slice_get, refl, ap, sym, ◌∙◌, subst, eq-eqb, arith}
+use Rattle.std.proofs.Common.{◌≡◌, ℕ, zero, suc, ◌<◌, ◌==◌, ⊎_elim, List, [], ◌∷◌, All, length, Contains, Some, slice_get, refl, sym, ◌∙◌, subst, eq-eqb, arith}
 use Rattle.std.proofs.lemmas.List.Elements.{Contains-append_left, Contains-append_right, Contains-append_cases}
 use Rattle.tm_base.specs.declared.events.Entry.{Entry}
 use Rattle.tm_base.specs.Histories.{IsHistory}
-use Rattle.tm_base.specs.Orders.{IsClosed, of_object}
 use Rattle.tm_book.specs.Books.{BookView, history_state_of}
 use Rattle.tm_text.specs.Exercises.{ExerciseView}
 use Rattle.tm_merge.specs.Numbering.{PrefixesAreClosed}
@@ -12,7 +11,7 @@ use Rattle.tm_replay.specs.JointSteps.{IsJointRun}
 use Rattle.tm_replay.specs.SoundStates.{IsSoundJoint}
 use Rattle.tm_replay.proofs.ClosedPrefixesLemmas.{prefixes-are_closed}
 use Rattle.tm_replay.proofs.ProjectionsLemmas.{objects-have_histories}
-use Rattle.tm_replay.proofs.SliceLemmas.{found_at, Contains-at, Contains-first}
+use Rattle.tm_replay.proofs.SliceLemmas.{found_at}
 use Rattle.tm_order.specs.Cuts.{HaveSameEvents}
 use Rattle.tm_order.proofs.CutsLemmas.{closed-same}
 use Rattle.tm_order.proofs.Elements.{Contains-none, Contains-filter, Contains-filtered}

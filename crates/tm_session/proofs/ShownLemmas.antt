@@ -1,5 +1,5 @@
 -- What a run is once the collector has shown its next event.
-use Rattle.std.proofs.Common.{◌≡◌, ℕ, ◌+◌, ◌≤◌, Bool, true, false, List, [], ◌∷◌, ◌++◌, All, length, take, drop, Option, Some, None, MatchOption, refl, ap, sym, ◌∙◌, subst, arith}
+use Rattle.std.proofs.Common.{◌≡◌, ℕ, ◌+◌, ◌≤◌, false, List, [], ◌∷◌, ◌++◌, All, length, take, drop, Option, Some, None, MatchOption, refl, ap, sym, ◌∙◌, subst, arith}
 use Rattle.std.proofs.lemmas.List.{length-take-le}
 use Rattle.std.proofs.Math.Seq.{drop-append_seam, take-length}
 use Rattle.tm_base.specs.declared.events.Entry.{Entry}
@@ -20,7 +20,7 @@ use Rattle.tm_collect.specs.declared.refusals.Refusal.TheVariants as refusals
 use Rattle.tm_collect.specs.Collectors.{CollectorView, IsCollecting, new_collector, shown_of}
 use Rattle.tm_collect.specs.Advancing.{IsInRange}
 use Rattle.tm_collect.specs.Handing.{Hands, Takes, refused}
-use Rattle.tm_collect.specs.NextEvents.{ShowsAll, ShowsNext, next_row}
+use Rattle.tm_collect.specs.NextEvents.{ShowsNext, next_row}
 use Rattle.tm_collect.specs.Sending.{Outlet, SendsPrefix}
 use Rattle.tm_collect.specs.Watching.{newly_shown}
 use Rattle.tm_collect.proofs.WatchingLemmas.{told-join}
@@ -28,15 +28,14 @@ use Rattle.tm_joint.specs.Joints.{JointView}
 use Rattle.tm_watch.specs.Watchers.{Watch, told_all}
 use Rattle.tm_collect.specs.Transcripts.{AddsRow, first_joint, transcript_at}
 use Rattle.tm_collect.proofs.CollectingLemmas.{All-front}
-use Rattle.tm_collect.proofs.SendingLemmas.{Sends-join, Sends-none, SendsPrefix-join}
+use Rattle.tm_collect.proofs.SendingLemmas.{Sends-join, Sends-none, Sends-prefix, SendsPrefix-join}
 use Rattle.tm_session.specs.declared.alone_runs.AloneRun.{AloneRun}
-use Rattle.tm_session.specs.declared.rules.Rules.{Rules}
-use Rattle.tm_session.specs.AloneRuns.{GoesOnBy, HasBegun, HasRecorded, HasSent, IsUnderWay, run_state_at, run_state_of}
-use Rattle.tm_session.specs.AloneTexts.{BeginsAloneText}
+use Rattle.tm_base.specs.declared.rules.Rules.{Rules}
+use Rattle.tm_session.specs.AloneRuns.{GoesOnBy, HasBegun, HasSent, IsUnderWay, run_state_at, run_state_of}
 use Rattle.tm_session.specs.Records.{HaveRecorded}
 use Rattle.tm_session.specs.Turns.{RunState, AreWaited, BeginsAlone, Goes, first_run_state}
 use Rattle.tm_session.proofs.Turning.{IsSoundTurn, alone-legal, begun-sound, turned, turn-counts}
-use Rattle.tm_session.proofs.WholeTexts.{Sends-prefix, begins-text}
+use Rattle.tm_session.proofs.WholeTexts.{begins-text}
 
 -- the run with this collector in the place of its own
 abbrev pub with_collector : AloneRun → CollectorView → AloneRun

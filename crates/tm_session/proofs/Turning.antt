@@ -17,7 +17,7 @@ use Rattle.tm_replay.proofs.Soundness.{IsSoundJoint-step}
 use Rattle.tm_replay.proofs.Falling.{work-step}
 use Rattle.tm_replay.proofs.Counted.{IsCounted-step}
 use Rattle.tm_session.specs.declared.alone_runs.AloneRun.{AloneRun}
-use Rattle.tm_session.specs.declared.rules.Rules.{Rules}
+use Rattle.tm_base.specs.declared.rules.Rules.{Rules}
 use Rattle.tm_session.specs.Choices.{draw_after}
 use Rattle.tm_session.specs.Turns.{RunState, AreWaited, first_run_state, BeginsAlone, Goes, GoesBy, Halts, KeepsLimit, Moves, due_stops}
 use Rattle.tm_session.specs.AloneRuns.{run_state_at, MovesOn, Stops}

@@ -6,7 +6,7 @@ use Rattle.tm_laws.proofs.RunsLemmas.{Leads-append}
 use Rattle.tm_text.specs.Exercises.{ExerciseView, IsWellFormed}
 use Rattle.tm_replay.specs.Bars.{bars_of, is_over}
 use Rattle.tm_replay.specs.Work.{work}
-use Rattle.tm_session.specs.declared.rules.Rules.{Rules}
+use Rattle.tm_base.specs.declared.rules.Rules.{Rules}
 use Rattle.tm_session.specs.Turns.{RunState, first_run_state, BeginsAlone, Goes, IsAloneRun}
 use Rattle.tm_session.specs.Determinism.{HasAloneRun}
 use Rattle.tm_session.proofs.NextTurns.{next-event}

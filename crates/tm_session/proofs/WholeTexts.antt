@@ -1,49 +1,22 @@
 -- What a run has written is a prefix of the text of the whole alone run.
-use Rattle.std.proofs.Common.{◌≡◌, ◌≢◌, ℕ, ◌+◌, Bool, true, false, List, [], ◌∷◌, ◌++◌, length, MatchBool, Option, refl, ap, sym, ◌∙◌, subst, append_assoc, length-append, arith}
-use Rattle.std.proofs.lemmas.List.{append-nil}
+use Rattle.std.proofs.Common.{◌≡◌, ◌≢◌, ℕ, List, [], ◌∷◌, ◌++◌, length, refl, ap, sym, ◌∙◌, subst, append_assoc, length-append, arith}
 use Rattle.tm_base.specs.declared.events.Entry.{Entry}
 use Rattle.tm_base.specs.declared.ends.End.{End}
 use Rattle.tm_base.specs.Runs.{Leads}
-use Rattle.tm_outside.specs.Appending.{Appends, AppendsPrefix, AppendsProperPrefix}
-use Rattle.tm_outside.specs.Faults.{next_count}
-use Rattle.tm_outside.proofs.AppendingLemmas.{AppendsPrefix-none, AppendsPrefix-proper, AppendsPrefix-whole}
 use Rattle.tm_laws.proofs.RunsLemmas.{Leads-append}
 use Rattle.tm_text.specs.Exercises.{ExerciseView, IsWellFormed}
-use Rattle.tm_timeline.specs.Rows.{row_of, last_line_of}
+use Rattle.tm_timeline.specs.Rows.{last_line_of}
 use Rattle.tm_replay.specs.JointStates.{JointState}
 use Rattle.tm_replay.specs.JointSteps.{JointStep}
-use Rattle.tm_replay.specs.Bars.{bars_of}
 use Rattle.tm_replay.specs.Ends.{end_of, named_of}
-use Rattle.tm_session.specs.declared.rules.Rules.{Rules}
+use Rattle.tm_base.specs.declared.rules.Rules.{Rules}
 use Rattle.tm_session.specs.Determinism.{HasAloneText}
-use Rattle.tm_collect.specs.Sending.{Outlet, IsSent, Sends}
-use Rattle.tm_collect.specs.Transcripts.{Transcript, AddsRow, first_joint, transcript_at}
-use Rattle.tm_session.specs.AloneTexts.{AreRows, BeginsAloneText}
+use Rattle.tm_collect.specs.Transcripts.{Transcript, AddsRow, AreRows, first_joint, transcript_at}
+use Rattle.tm_collect.proofs.TranscriptsLemmas.{AddsRows, adds-rows}
+use Rattle.tm_session.specs.AloneTexts.{BeginsAloneText}
 use Rattle.tm_session.specs.Turns.{RunState, first_run_state, BeginsAlone}
 use Rattle.tm_session.proofs.Turning.{begun-sound, turns-legal}
 use Rattle.tm_session.proofs.WholeRuns.{begun-ends, begun-whole}
-
--- the rows of more events
-record AddsRows (x : ExerciseView) (p : Transcript) (es : List Entry) (k : JointState) : Type 0 where
-  pub transcript : Transcript
-  pub rows : Leads (AddsRow x) p es transcript
-  pub same : transcript.joint ≡ k
-  pub more : List ℕ
-  pub text : transcript.rows ≡ p.rows ++ more
-
-adds-rows : (x : ExerciseView) (es : List Entry) (p : Transcript) (k : JointState) → Leads (JointStep x) p.joint es k → AddsRows x p es k
-adds-rows x [] p k run = record { transcript = p; rows = refl; same = sym run; more = []; text = sym (append-nil p.rows) }
-adds-rows x (e ∷ es) p k run =
-    let row : List ℕ = row_of x (p.count + 1) e (bars_of run.0) in
-    let next : Transcript = record { joint = run.0; count = p.count + 1; rows = p.rows ++ row } in
-    let later : AddsRows x next es k = adds-rows x es next k run.2 in
-    record {
-      transcript = later.transcript;
-      rows = (next, record { step = run.1; count = refl; rows = refl }, later.rows);
-      same = later.same;
-      more = row ++ later.more;
-      text = later.text ∙ append_assoc p.rows row later.more;
-    }
 
 -- with a line end the bytes aren't empty
 ends-line : (more line : List ℕ) → more ++ (line ++ 10 ∷ []) ≢ []
@@ -93,16 +66,3 @@ module _ (x : ExerciseView) (rules : Rules) (formed : IsWellFormed x) where
     bytes = begins-empty.text;
     text = begins-empty.whole;
   }
-
--- what was sent is a prefix of the bytes
-pub Sends-prefix : (o p : Outlet) (bytes : List ℕ) → Sends o p bytes → AppendsPrefix o.written p.written bytes
-Sends-prefix o p bytes sent = by_old o.failed sent
-  where
-    by_new : (g : Bool) → MatchBool g ((p.faults ≡ next_count o.faults) × AppendsProperPrefix o.written p.written bytes) ((p.faults ≡ o.faults) × Appends o.written p.written bytes)
-        → AppendsPrefix o.written p.written bytes
-    by_new true h = AppendsPrefix-proper o.written p.written bytes h.1
-    by_new false h = AppendsPrefix-whole o.written p.written bytes h.1
-
-    by_old : (f : Bool) → MatchBool f (p ≡ o) (IsSent o p bytes) → AppendsPrefix o.written p.written bytes
-    by_old true same = AppendsPrefix-none o.written p.written bytes (ap (λ (q : Outlet). q.written) same)
-    by_old false h = by_new p.failed h

@@ -1,6 +1,5 @@
 -- An alone run as it is kept: by books, tickets and a collector.
-use Rattle.std.specs.Prelude.{◌≡◌, ℕ, ◌+◌, ◌≤◌, ◌<◌, true, List, [], ◌∷◌, ◌++◌, length, slice_get, Some, Option}
-use Rattle.std.specs.List.{AllByRecursion}
+use Rattle.std.specs.Prelude.{◌≡◌, ℕ, ◌+◌, ◌≤◌, true, List, [], ◌∷◌, ◌++◌, length, slice_get, Some, Option}
 use Rattle.tm_base.specs.declared.operations.Op.TheVariants as op
 use Rattle.tm_base.specs.declared.events.Entry.{Entry}
 use Rattle.tm_base.specs.Runs.{Leads}
@@ -17,7 +16,7 @@ use Rattle.tm_collect.specs.Collectors.{CollectorView, shown_of}
 use Rattle.tm_collect.specs.NextEvents.{ShowsAll}
 use Rattle.tm_session.specs.declared.alone_runs.AloneRun.{AloneRun}
 use Rattle.tm_session.specs.declared.next_calls.NextCall.{NextCall}
-use Rattle.tm_session.specs.declared.rules.Rules.{Rules}
+use Rattle.tm_base.specs.declared.rules.Rules.{Rules}
 use Rattle.tm_session.specs.Choices.{chosen_thread, draw_after}
 use Rattle.tm_session.specs.Records.{HaveRecorded, IsEarly, Performs}
 use Rattle.tm_session.specs.Turns.{RunState, AreWaited, BeginsAlone, Goes, KeepsLimit}

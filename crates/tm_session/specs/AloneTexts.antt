@@ -2,17 +2,12 @@
 use Rattle.std.specs.Prelude.{◌≡◌, ◌≢◌, ℕ, List, [], ◌++◌, length}
 use Rattle.tm_base.specs.declared.ends.End.{End}
 use Rattle.tm_base.specs.declared.events.Entry.{Entry}
-use Rattle.tm_base.specs.Runs.{Leads}
 use Rattle.tm_text.specs.Exercises.{ExerciseView}
 use Rattle.tm_timeline.specs.Rows.{last_line_of}
 use Rattle.tm_replay.specs.Ends.{end_of, named_of}
-use Rattle.tm_collect.specs.Transcripts.{Transcript, AddsRow, first_joint, transcript_at}
-use Rattle.tm_session.specs.declared.rules.Rules.{Rules}
+use Rattle.tm_collect.specs.Transcripts.{Transcript, AreRows}
+use Rattle.tm_base.specs.declared.rules.Rules.{Rules}
 use Rattle.tm_session.specs.Turns.{RunState, IsAloneRun}
-
--- The transcript has the rows of these events.
-abbrev pub AreRows : ExerciseView → List Entry → Transcript → Type 0
-AreRows x es p = Leads (AddsRow x) (transcript_at (first_joint x) []) es p
 
 -- The bytes are those of an alone run: the rows of its events and its last line.
 pub record IsAloneText (x : ExerciseView) (rules : Rules) (es : List Entry) (end : End) (cut : List ℕ) (bytes : List ℕ) : Type 0 where

@@ -1,18 +1,12 @@
 -- The thread that moves next, by the bars and the schedule.
-use Rattle.std.specs.Prelude.{ℕ, ◌+◌, ◌*◌, ◌/◌, ◌%◌, ◌^◌, ◌==◌, if◌then◌else◌, List, length, slice_get, Option}
+use Rattle.std.specs.Prelude.{ℕ, ◌==◌, if◌then◌else◌, List, length, slice_get, Option}
 use Rattle.tm_base.specs.declared.bars.Bar.{Bar}
 use Rattle.tm_replay.specs.Choosing.{next_thread, runnable_threads}
-use Rattle.tm_session.specs.declared.choices.TheConstants.{INCREMENT, MULTIPLIER}
+use Rattle.tm_base.specs.Draws.{next_draw, place_of}
 
--- The number that is drawn after this one: the linear congruential generator of Knuth's MMIX computer, of
--- 64 bits.
-abbrev pub next_draw : ℕ → ℕ
-next_draw x = (x * MULTIPLIER + INCREMENT) % 2 ^ 64
-
--- The thread that a number picks out of some: the one at the place that its upper 31 bits leave when they
--- are divided by how many there are.
+-- The thread that a number picks out of some.
 abbrev pub picked : List ℕ → ℕ → Option ℕ
-picked threads x = slice_get threads (x / 2 ^ 33 % length threads)
+picked threads x = slice_get threads (place_of x (length threads))
 
 -- Schedule 0 draws nothing. Each other one draws a number for each move, be there one thread to choose from
 -- or several.

@@ -4,7 +4,7 @@ use Rattle.tm_base.specs.declared.ends.End.{End}
 use Rattle.tm_base.specs.declared.events.Entry.{Entry}
 use Rattle.tm_base.specs.Runs.{Leads}
 use Rattle.tm_text.specs.Exercises.{ExerciseView, IsWellFormed}
-use Rattle.tm_session.specs.declared.rules.Rules.{Rules}
+use Rattle.tm_base.specs.declared.rules.Rules.{Rules}
 use Rattle.tm_session.specs.Turns.{RunState, BeginsAlone, Goes, IsAloneRun}
 use Rattle.tm_session.specs.AloneTexts.{IsAloneText}
 

@@ -11,7 +11,7 @@ use Rattle.tm_replay.specs.JointStates.{JointState, ThreadState, start}
 use Rattle.tm_base.specs.Fits.{is_call}
 use Rattle.tm_replay.specs.JointSteps.{JointStep}
 use Rattle.tm_replay.specs.Bars.{bars_of, has_waiter, is_over, is_stuck, waited_objects}
-use Rattle.tm_session.specs.declared.rules.Rules.{Rules}
+use Rattle.tm_base.specs.declared.rules.Rules.{Rules}
 use Rattle.tm_session.specs.Choices.{chosen_thread, draw_after}
 
 -- Where the run stands: the joint state, the thread that moved last (0 where none has), the number that was

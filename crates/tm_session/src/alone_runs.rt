@@ -1,5 +1,5 @@
-ghost use Rattle.std.specs.Prelude.{◌≡◌, ◌≤◌, ◌<◌, length, map, ◌+◌, IfOk, List, OnErr, OnOk, false};
-ghost use Rattle.tm_timeline.specs.Rows.{last_line_of};
+ghost use Rattle.std.specs.Prelude.{◌≡◌, ◌≤◌, ◌<◌, All, length, map, ◌+◌, IfOk, List, OnErr, OnOk, false};
+ghost use Rattle.tm_timeline.specs.Rows.{last_line_of, IsProgramThread};
 ghost use Rattle.tm_replay.specs.Bars.{bars_of, is_over};
 ghost use Rattle.tm_replay.specs.Ends.{end_of, named_of};
 ghost use Rattle.tm_replay.specs.JointStates.{first_object_state, first_thread_state, unbegun};
@@ -12,11 +12,10 @@ ghost use Rattle.tm_session.specs.Noting.{object_state_of};
 ghost use Rattle.tm_session.specs.Records.{AreFresh, AreFirstTickets};
 
 use crate::endings::Ending;
-use crate::rules::{MOST_CALLS, Rules};
 use crate::runs::Finished;
 use std::alloc::Global;
 use std::collections::VecDeque;
-use tm_base::{NoMemory, Sequence, Ticket};
+use tm_base::{MOST_CALLS, NoMemory, Rules, Sequence, Ticket};
 use tm_book::Book;
 use tm_collect::Collector;
 use tm_outside::{Sink, write_all};
@@ -74,7 +73,8 @@ impl<'x> AloneRun<'x> {
     }
 
     /// Makes the next event in its object's book and hands it to the collector, which shows it, tells the
-    /// watchers of it, and writes its row, unless a write failed before. Where memory runs out the first bytes of that row are written.
+    /// watchers of it, and writes its row, unless a write failed before. Where memory runs out the first bytes of
+    /// that row are written.
     pub fn turn<K: Sink>(
         &mut self,
         exercise: &Exercise,
@@ -116,6 +116,7 @@ impl<'x> AloneRun<'x> {
         requires under_way { IsUnderWay exercise.now rules self }
         ensures end { IfOk result (λ f. f.end ≡ end_of rules.limit self.entry.collector.joint.state) }
         ensures cut { IfOk result (λ f. f.cut ≡ named_of rules.limit self.entry.collector.joint.state) }
+        ensures known { IfOk result (λ f. All (IsProgramThread exercise.now) f.cut) }
         ensures shown { IfOk result (λ f. f.shown ≡ shown_of self.entry.collector) }
         ensures books { IfOk result (λ f. f.books ≡ self.entry.books.items) }
         ensures sent { IfOk result (λ f. Sends

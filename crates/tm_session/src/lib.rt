@@ -7,7 +7,6 @@ mod choices;
 mod endings;
 mod laws;
 mod next_calls;
-mod rules;
 mod runs;
 mod turns;
 
@@ -15,5 +14,4 @@ pub use laws::{
     alone_runs_end, begun_runs_are_prefixes, exercises_have_one_alone_run,
     exercises_have_one_alone_text,
 };
-pub use rules::{MOST_CALLS, Rules};
 pub use runs::{Finished, alone};

@@ -1,4 +1,5 @@
-ghost use Rattle.std.specs.Prelude.{◌≡◌, ◌≤◌, IfOk, OnErr, List, map, ℕ, false};
+ghost use Rattle.std.specs.Prelude.{◌≡◌, ◌≤◌, All, IfOk, OnErr, List, map, ℕ, false};
+ghost use Rattle.tm_timeline.specs.Rows.{IsProgramThread};
 ghost use Rattle.tm_outside.specs.Appending.{AppendsPrefix};
 ghost use Rattle.tm_replay.specs.JointStates.{JointState};
 ghost use Rattle.tm_merge.specs.Numbering.{PrefixesAreClosed};
@@ -12,9 +13,8 @@ ghost use Rattle.tm_session.specs.Shelves.{AreBooksOf, entries_of};
 ghost use Rattle.tm_session.specs.Turns.{rules_of};
 
 use crate::alone_runs::AloneRun;
-use crate::rules::{MOST_CALLS, Rules};
 use std::alloc::Global;
-use tm_base::{End, Entries, NoMemory, Sequence};
+use tm_base::{End, Entries, MOST_CALLS, NoMemory, Rules, Sequence};
 use tm_book::Book;
 use tm_outside::Sink;
 use tm_text::Exercise;
@@ -57,6 +57,8 @@ pub fn alone<K: Sink>(
     ensures legal { IfOk result (λ f. (j : JointState) × IsJointRun exercise.now f.shown j) }
     // They have ended under the limit of calls, with this end and these threads cut.
     ensures ended { IfOk result (λ f. EndsAs exercise.now limit f.shown f.end f.cut) }
+    // The threads that were cut have programs.
+    ensures known { IfOk result (λ f. All (IsProgramThread exercise.now) f.cut) }
     // Their places and stamps are in order.
     ensures ordered { IfOk result (λ f. AreOrdered f.shown) }
     // Cut after any of them, they are closed under happened-before in all entries of all books, and none

@@ -9,8 +9,7 @@ use crate::alone_runs::AloneRun;
 use crate::book_calls::enter;
 use crate::choices::{choose, draw_after};
 use crate::next_calls::NextCall;
-use crate::rules::Rules;
-use tm_base::{Entry, NoMemory, Op};
+use tm_base::{Entry, NoMemory, Op, Rules};
 use tm_text::Exercise;
 
 impl<'x> AloneRun<'x> {

@@ -1,4 +1,4 @@
-use Rattle.std.proofs.Common.{◌≡◌, ◌/◌, ◌%◌, ◌^◌, ℕ, List, [], ◌∷◌, length, None, slice_get, refl, ap, sym, ◌∙◌}
+use Rattle.std.proofs.Common.{◌≡◌, ℕ, List, [], ◌∷◌, length, None, refl, sym, ◌∙◌}
 use Rattle.tm_replay.specs.Bars.{bars_of}
 use Rattle.tm_replay.specs.Choosing.{runnable_threads}
 use Rattle.tm_session.specs.Choices.{picked}

@@ -1,4 +1,4 @@
-use Rattle.std.proofs.Common.{◌≡◌, ◌≤◌, ◌+◌, ◌-◌, ℕ, All, append-nil, [], ◌∷◌, ◌++◌, filter, length, slice_get, if◌then◌else◌, arith, refl, ap, sym, ◌∙◌, subst}
+use Rattle.std.proofs.Common.{◌≡◌, ◌≤◌, ◌+◌, ◌-◌, ℕ, All, append-nil, [], ◌∷◌, ◌++◌, filter, length, slice_get, if◌then◌else◌, arith, ap, sym, ◌∙◌, subst}
 use Rattle.std.specs.List.{range_with_len}
 use Rattle.tm_text.specs.Exercises.{ExerciseView}
 use Rattle.tm_timeline.specs.Rows.{IsProgramThread}

@@ -15,14 +15,14 @@ use Rattle.tm_replay.specs.Ends.{IsEndedRun, EndsAs, end_of, named_of}
 use Rattle.tm_replay.proofs.JointOrderLemmas.{runs-placed, runs-stamped}
 use Rattle.tm_collect.specs.Collectors.{CollectorView, new_collector, shown_of}
 use Rattle.tm_collect.specs.Sending.{IsSent, Outlet, Sends}
-use Rattle.tm_collect.specs.Transcripts.{transcript_at}
+use Rattle.tm_collect.specs.Transcripts.{AreRows, transcript_at}
 use Rattle.tm_collect.proofs.SendingLemmas.{Sends-join}
 use Rattle.tm_watch.specs.Watchers.{Watch, told_all}
 use Rattle.tm_session.specs.declared.alone_runs.AloneRun.{AloneRun}
-use Rattle.tm_session.specs.declared.rules.Rules.{Rules}
+use Rattle.tm_base.specs.declared.rules.Rules.{Rules}
 use Rattle.tm_session.specs.declared.runs.Finished.{Finished}
-use Rattle.tm_session.specs.AloneRuns.{HasBegun, HasSent, IsUnderWay, run_state_of}
-use Rattle.tm_session.specs.AloneTexts.{AreRows, BeginsAloneText, IsAloneText}
+use Rattle.tm_session.specs.AloneRuns.{HasSent, IsUnderWay, run_state_of}
+use Rattle.tm_session.specs.AloneTexts.{IsAloneText}
 use Rattle.tm_session.specs.Shelves.{AreBooksOf, entries_of}
 use Rattle.tm_session.specs.Turns.{BeginsAlone, rules_of}
 use Rattle.tm_session.proofs.AloneEndsLemmas.{alone-ends}

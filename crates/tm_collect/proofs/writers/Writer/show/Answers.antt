@@ -6,7 +6,7 @@ use Rattle.tm_joint.specs.Joints.{JointView}
 use Rattle.tm_collect.specs.declared.writers.Stop.{Stop}
 use Rattle.tm_collect.specs.Sending.{Outlet}
 use Rattle.tm_collect.specs.Advancing.{Shows, StopsBy}
-use Rattle.tm_collect.proofs.WatchingLemmas.{told-more, told-none}
+use Rattle.tm_collect.proofs.WatchingLemmas.{told-more}
 use Rattle.tm_collect.proofs.writers.Writer.show.Goals as goal
 
 module _ (x y : ExerciseView) (es : List Entry) (u v w : JointView) (o p q : Outlet) (same : y ≡ x) (so_far : Shows x es u v o p) where

@@ -4,11 +4,11 @@ use Rattle.tm_base.specs.declared.events.Entry.{Entry}
 use Rattle.tm_replay.specs.JointStates.{JointState}
 use Rattle.tm_replay.specs.SoundStates.{IsSoundJoint}
 use Rattle.tm_replay.specs.Bars.{bars_of, is_stuck, has_waiter}
-use Rattle.tm_collect.specs.Collectors.{CollectorView, shown_of}
+use Rattle.tm_collect.specs.Collectors.{CollectorView}
 use Rattle.tm_session.specs.declared.alone_runs.AloneRun.{AloneRun}
-use Rattle.tm_session.specs.AloneRuns.{GoesOnBy, HasRecorded, MovesOn, Stops, run_state_at, run_state_of}
-use Rattle.tm_session.specs.Records.{HaveRecorded, IsEarly}
-use Rattle.tm_session.specs.Turns.{AreWaited, Goes, GoesBy}
+use Rattle.tm_session.specs.AloneRuns.{GoesOnBy, MovesOn, Stops, run_state_at, run_state_of}
+use Rattle.tm_session.specs.Records.{IsEarly}
+use Rattle.tm_session.specs.Turns.{AreWaited, GoesBy}
 use Rattle.tm_session.proofs.Stopping.{due-waited, none-due}
 use Rattle.tm_session.proofs.Turning.{moves, halts}
 use Rattle.tm_session.proofs.RecordsLemmas.{recorded-same}

@@ -1,11 +1,8 @@
-use Rattle.std.proofs.Common.{◌≡◌, ◌≤◌, ◌+◌, ◌*◌, ℕ, List, [], length, refl, sym, ap, ◌∙◌, subst, arith}
+use Rattle.std.proofs.Common.{◌≡◌, ℕ, List, [], refl, ap, arith}
 use Rattle.tm_text.specs.Exercises.{ExerciseView, IsWellFormed}
-use Rattle.tm_replay.specs.JointStates.{JointState, start}
-use Rattle.tm_replay.specs.Work.{IsCounted, work}
+use Rattle.tm_replay.specs.JointStates.{start}
 use Rattle.tm_replay.proofs.JointStartLemmas.{IsCounted-start, work-start}
-use Rattle.tm_collect.specs.Collectors.{CollectorView, new_collector}
-use Rattle.tm_session.specs.AloneRuns.{HasRecorded, IsUnderWay}
-use Rattle.tm_session.specs.declared.rules.Rules.{Rules}
+use Rattle.tm_base.specs.declared.rules.Rules.{Rules}
 use Rattle.tm_session.specs.Turns.{RunState}
 use Rattle.tm_session.proofs.TicketsLemmas.{first-tickets}
 use Rattle.tm_session.proofs.alone_runs.AloneRun.make.Goals as goal

@@ -1,10 +1,9 @@
-use Rattle.std.proofs.Common.{◌≡◌, ◌≤◌, ◌<◌, ℕ, List, Some, length, refl, slice_get, arith, sym, ap, ◌∙◌, subst}
+use Rattle.std.proofs.Common.{◌≡◌, ◌≤◌, ℕ, Some, length, slice_get, arith, sym, ap, ◌∙◌, subst}
 use Rattle.std.proofs.lemmas.Result.{IfOk-weaker}
 use Rattle.tm_base.specs.declared.events.Entry.{Entry}
 use Rattle.tm_text.specs.Exercises.{ExerciseView}
-use Rattle.tm_replay.specs.JointStates.{JointState, ThreadState}
 use Rattle.tm_replay.specs.JointSteps.{MayIn}
-use Rattle.tm_replay.specs.Bars.{bars_of, is_over, is_stuck}
+use Rattle.tm_replay.specs.Bars.{bars_of}
 use Rattle.tm_joint.specs.Joints.{JointView}
 use Rattle.tm_session.specs.AloneRuns.{Makes}
 use Rattle.tm_session.specs.Choices.{chosen_thread}

@@ -1,15 +1,14 @@
-use Rattle.std.proofs.Common.{◌≡◌, ◌≤◌, ◌<◌, ◌+◌, ℕ, Bool, List, Option, OnErr, Result, Ok, Err, sym, ap, ◌∙◌, subst, arith}
+use Rattle.std.proofs.Common.{◌≡◌, ℕ, Bool, List, Option, OnErr, Result, Ok, Err, sym, ◌∙◌, subst, arith}
 use Rattle.tm_base.specs.declared.events.Entry.{Entry}
-use Rattle.tm_replay.specs.JointSteps.{JointStep}
 use Rattle.tm_text.specs.Exercises.{ExerciseView}
 use Rattle.tm_collect.specs.Collectors.{CollectorView, IsCollecting}
 use Rattle.tm_collect.specs.Handing.{Hands}
 use Rattle.tm_collect.specs.NextEvents.{ShowsNext}
 use Rattle.tm_collect.specs.Pumping.{Answers, LacksSpace}
-use Rattle.tm_collect.specs.Sending.{Outlet, SendsPrefix}
+use Rattle.tm_collect.specs.Sending.{Outlet}
 use Rattle.tm_collect.proofs.NextEventsLemmas.{next-shown, next-begun}
 use Rattle.tm_session.specs.declared.alone_runs.AloneRun.{AloneRun}
-use Rattle.tm_session.specs.declared.rules.Rules.{Rules}
+use Rattle.tm_base.specs.declared.rules.Rules.{Rules}
 use Rattle.tm_session.specs.AloneRuns.{GoesOnBy, HasBegun, HasSent, IsUnderWay}
 use Rattle.tm_session.proofs.ShownLemmas.{begun-next, begun-so_far, falls-next, formed, hands-unwritten, own-step, sent-next, sound_turn, told-next, under_way-next}
 use Rattle.tm_session.proofs.alone_runs.AloneRun.turn.Goals as goal

@@ -1,0 +1,2 @@
+pub mod LegalTexts
+pub mod OneText
