@@ -1,6 +1,5 @@
-pub mod CommandLineLemmas
-pub mod Setting
-pub mod CommandLineReader
 pub mod Judged
-pub mod Told
-pub mod Limited
+pub mod Statuses
+pub mod JudgedTraces
+pub mod Sent
+pub mod Causes

@@ -1,7 +1,9 @@
-pub mod CommandLine
-pub mod ChosenSettings
-pub mod Refusals
 pub mod Outside
-pub mod FoundCommands
-pub mod Outcomes
+pub mod Refusals
+pub mod Answers
+pub mod RunCommand
+pub mod CheckCommand
+pub mod MakeCommand
+pub mod LargeCommand
+pub mod Commands
 pub mod Processes

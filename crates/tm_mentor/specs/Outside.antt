@@ -1,5 +1,5 @@
--- What contracts see of what stands outside: of a source and of a sink.
-use Rattle.std.specs.Prelude.{ℕ, List, Option}
+-- What contracts see of what stands outside: of a source and of a sink, before and after a command.
+use Rattle.std.specs.Prelude.{◌≡◌, ℕ, List, Option}
 
 -- The bytes that the source has left, where it tells them, and the count of its faults.
 pub record Input : Type 0 where
@@ -18,3 +18,14 @@ pub record Output : Type 0 where
 -- A sink, by its ghost members.
 abbrev pub output_of : {K : Type 0} → (K → Option (List ℕ)) → (K → ℕ) → K → Output
 output_of written faults sink = record { written = written sink; faults = faults sink }
+
+-- Both, before and after.
+pub record Exchange : Type 0 where
+  pub unread : Input
+  pub read : Input
+  pub unsent : Output
+  pub sent : Output
+
+-- Nothing was read.
+abbrev pub ReadsNothing : Exchange → Type 0
+ReadsNothing o = o.read ≡ o.unread

@@ -5,10 +5,11 @@ use Rattle.std.specs.declared.alloc.Global.{Global}
 use Rattle.std.specs.declared.io.Error.{Error}
 use Rattle.std.specs.declared.vec.IntoIter.{IntoIter}
 use Rattle.tm_base.specs.declared.memory.NoMemory.{NoMemory}
-use Rattle.tm_session.specs.declared.runs.Finished.{Finished}
+use Rattle.tm_mentor.specs.declared.answers.Answer.{Answer}
 use Rattle.tm_mentor.specs.declared.outcomes.Outcome.{Outcome}
-use Rattle.tm_mentor.specs.Outside.{Input, Output}
-use Rattle.tm_mentor.specs.Outcomes.{run_status, Runs, RunsNothing}
+use Rattle.tm_mentor.specs.Answers.{outcome_of}
+use Rattle.tm_mentor.specs.Commands.{Answers}
+use Rattle.tm_mentor.specs.Outside.{Exchange, ReadsNothing}
 
 -- The words of a command line: the arguments after the first, which is the program's name, in their
 -- order. Where the arguments could not be had there are none.
@@ -22,18 +23,19 @@ abbrev pub process_status : Result Outcome NoMemory → ℕ
 process_status (Ok outcome) = outcome.status
 process_status (Err error) = 9
 
--- The command of these words was answered with this status: a run ended, or none did.
-abbrev pub IsAnswered : List (String Global) → Input → Input → Output → Output → ℕ → Type 0
-IsAnswered words read read' sent sent' status =
-    ((f : Finished) × Runs words read read' sent sent' f × (status ≡ run_status f)) ⊎ RunsNothing words read read' sent sent' status
+-- The command of these words was answered, with this status.
+pub record EndsCommand (words : List (String Global)) (o : Exchange) (status : ℕ) : Type 0 where
+  pub answer : Answer
+  pub answers : Answers words o answer
+  pub same : status ≡ (outcome_of answer).status
 
 -- Memory ran out before there were words: nothing was read or written, and the status is 9.
-pub record IsWordless (read read' : Input) (sent sent' : Output) (status : ℕ) : Type 0 where
-  pub unread : read' ≡ read
-  pub unwritten : sent' ≡ sent
+pub record IsWordless (o : Exchange) (status : ℕ) : Type 0 where
+  pub unread : ReadsNothing o
+  pub unwritten : o.sent ≡ o.unsent
   pub same : status ≡ 9
 
 -- A process with these words ended with this status: the command was answered, or memory ran out before
 -- there were words.
-abbrev pub EndsProcess : List (String Global) → Input → Input → Output → Output → ℕ → Type 0
-EndsProcess words read read' sent sent' status = IsAnswered words read read' sent sent' status ⊎ IsWordless read read' sent sent' status
+abbrev pub EndsProcess : List (String Global) → Exchange → ℕ → Type 0
+EndsProcess words o status = EndsCommand words o status ⊎ IsWordless o status

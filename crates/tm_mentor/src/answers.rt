@@ -1,23 +1,36 @@
 ghost use Rattle.std.specs.Prelude.{◌≡◌, ◌≤◌, map};
-ghost use Rattle.tm_mentor.specs.CommandLine.{SpellsNoRun};
+ghost use Rattle.tm_base.specs.declared.rules.Rules.{Rules};
+ghost use Rattle.tm_words.specs.declared.commands.Command.TheVariants.{Check, Run};
+ghost use Rattle.tm_words.specs.Commands.{Spells};
+ghost use Rattle.tm_mentor.specs.Answers.{HaveWatched};
+ghost use Rattle.tm_mentor.specs.CheckCommand.{ReadsTraceAtMost};
+ghost use Rattle.tm_mentor.specs.Commands.{Answers};
 ghost use Rattle.tm_mentor.specs.Outside.{input_of, output_of};
-ghost use Rattle.tm_mentor.specs.FoundCommands.{ReadsAtMost};
-ghost use Rattle.tm_mentor.specs.Outcomes.{Answers, HaveWatched};
+ghost use Rattle.tm_mentor.specs.RunCommand.{ReadsAtMost};
 
-use crate::commands::{Command, CommandError, read_command};
-use crate::refusals::{Refusal, send_line};
+use crate::check_command::check;
+use crate::large_command::large_run;
+use crate::make_command::make;
+use crate::refusals::{Refusal, refuse};
+use crate::run_command::run;
 use std::alloc::Global;
 use tm_outside::{Sink, Source};
-use tm_session::{Finished, alone};
+use tm_session::Finished;
 use tm_watch::Watcher;
+use tm_words::{Command, spell};
 
 /// How a command ended.
 #[derive(Drop)]
-pub(crate) enum Answer {
+pub enum Answer {
     /// Nothing was run, and the line that says why was sent to the sink, which may have failed.
     Refused { refusal: Refusal, write_fault: bool },
-    /// A run ended.
+    /// A run ended, and its text or its summary was sent.
     Ran(Finished),
+    /// Nothing was to be run, and what the command writes was sent: a ready-made exercise, or the rows of a trace that is
+    /// legal.
+    Wrote { write_fault: bool },
+    /// A trace was judged, no order of its events is a legal run, and the lines that say why were sent.
+    Illegal { write_fault: bool },
     /// Memory ran out.
     NoMemory,
 }
@@ -30,37 +43,24 @@ pub(crate) fn carry_out<S: Source, K: Sink>(
     sink: &mut K,
     watchers: &mut Vec<Box<dyn Watcher>>,
 ) -> Answer
-    ensures answers { Answers words.now
-        (input_of S.left S.fault_count source.old) (input_of S.left S.fault_count source.new)
-        (output_of K.written K.fault_count sink.old) (output_of K.written K.fault_count sink.new)
-        result }
+    ensures answers { Answers words.now (record {
+      unread = input_of S.left S.fault_count source.old;
+      read = input_of S.left S.fault_count source.new;
+      unsent = output_of K.written K.fault_count sink.old;
+      sent = output_of K.written K.fault_count sink.new;
+    }) result }
     ensures watched { HaveWatched (map (λ b. watch b) watchers.old.items) result (map (λ b. watch b) watchers.new.items) }
-    ensures taken { ReadsAtMost (S.left source.old) (S.left source.new) }
-    ensures unread { SpellsNoRun words.now → source.new ≡ source.old }
+    ensures taken { ReadsTraceAtMost (S.left source.old) (S.left source.new) }
+    ensures taken_by_run { ¬ Spells words.now Check → ReadsAtMost (S.left source.old) (S.left source.new) }
+    ensures unread { ((rules : Rules) → ¬ Spells words.now (Run rules)) → ¬ Spells words.now Check → source.new ≡ source.old }
     ensures source_never_falls { S.fault_count source.old ≤ S.fault_count source.new }
     ensures sink_never_falls { K.fault_count sink.old ≤ K.fault_count sink.new }
 {
-    match read_command(alloc, words, source) {
-        Ok(Command { exercise, rules }) => {
-            match alone(
-                alloc,
-                &exercise,
-                rules.schedule,
-                rules.limit,
-                sink,
-                watchers,
-            ) {
-                Ok(finished) => Answer::Ran(finished),
-                Err(_) => Answer::NoMemory,
-            }
-        }
-        Err(CommandError::Refused(refusal)) => match send_line(alloc, refusal, sink) {
-            Ok(write_fault) => Answer::Refused {
-                refusal,
-                write_fault,
-            },
-            Err(_) => Answer::NoMemory,
-        },
-        Err(CommandError::NoMemory) => Answer::NoMemory,
+    match spell(words) {
+        Some(Command::Run(rules)) => run(alloc, rules, source, sink, watchers),
+        Some(Command::Check) => check(alloc, source, sink),
+        Some(Command::Make(plan)) => make(alloc, plan, sink),
+        Some(Command::Large(number)) => large_run(alloc, number, sink, watchers),
+        None => refuse(alloc, Refusal::Usage, sink),
     }
 }

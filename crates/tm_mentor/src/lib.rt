@@ -1,17 +1,20 @@
-//! The top call of ThreadMentor: a command that reads an exercise, runs it and writes its text. A
-//! process takes the command from its arguments, and ends with its status.
+//! The top call of ThreadMentor: it does what a command's words say, and writes the text of a run, its summary, or
+//! a ready-made exercise. A process takes the words from its arguments, and ends with the command's status.
 #![tactic(auto)]
 
 mod answers;
-mod command_line;
-mod commands;
+mod check_command;
+mod large_command;
+mod make_command;
 mod outcomes;
 mod processes;
+mod readings;
 mod refusals;
-mod settings;
+mod run_command;
 mod top_calls;
+mod trace_readings;
 
-pub use command_line::words_spell_one_run;
+pub use answers::Answer;
 pub use outcomes::Outcome;
 pub use processes::{command_words, exit_code, run_process};
 pub use refusals::Refusal;
@@ -19,5 +22,7 @@ pub use top_calls::mentor_alone;
 
 #[cfg(test)]
 mod tests;
+#[cfg(test)]
+mod whole_checks;
 #[cfg(test)]
 mod whole_runs;

@@ -1,5 +1,5 @@
 ghost use Rattle.std.specs.Prelude.{◌≡◌};
-ghost use Rattle.tm_mentor.specs.Outcomes.{end_status, outcome_of, unless_failed};
+ghost use Rattle.tm_mentor.specs.Answers.{end_status, outcome_of, unless_failed};
 
 use crate::answers::Answer;
 use crate::refusals::refusal_status;
@@ -10,8 +10,9 @@ use tm_session::Finished;
 #[derive(Drop)]
 pub struct Outcome {
     /// 0, 6 or 7: a run ended by itself, stuck or with a thread cut at its limit of calls, and its
-    /// text was written. 2: the words spell no run. 3: what was read is the text of no exercise. 4:
-    /// the source failed. 5: the sink failed. 9: memory ran out.
+    /// text or its summary was written; or 0: the text of an exercise was written, or a trace is legal. 2: the
+    /// words spell no command. 3: what was read is the text of no exercise, or of no trace. 4: the source failed.
+    /// 5: the sink failed. 8: a trace is not legal. 9: memory ran out.
     pub status: u8,
     /// The run that ended, whether its text was written or the sink failed.
     pub finished: Option<Finished>,
@@ -33,6 +34,14 @@ impl Outcome {
             Answer::Ran(finished) => Outcome {
                 status: unless_failed(finished.write_fault, end_status(finished.end)),
                 finished: Some(finished),
+            },
+            Answer::Wrote { write_fault } => Outcome {
+                status: unless_failed(write_fault, 0),
+                finished: None,
+            },
+            Answer::Illegal { write_fault } => Outcome {
+                status: unless_failed(write_fault, 8),
+                finished: None,
             },
             Answer::NoMemory => Outcome {
                 status: 9,

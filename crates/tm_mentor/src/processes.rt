@@ -26,9 +26,12 @@ pub fn run_process<S: Source, K: Sink>(
     sink: &mut K,
     watchers: &mut Vec<Box<dyn Watcher>>,
 ) -> ExitCode
-    ensures { EndsProcess (words_of arguments)
-        (input_of S.left S.fault_count source.old) (input_of S.left S.fault_count source.new)
-        (output_of K.written K.fault_count sink.old) (output_of K.written K.fault_count sink.new)
+    ensures { EndsProcess (words_of arguments) (record {
+      unread = input_of S.left S.fault_count source.old;
+      read = input_of S.left S.fault_count source.new;
+      unsent = output_of K.written K.fault_count sink.old;
+      sent = output_of K.written K.fault_count sink.new;
+    })
         (exit_status result) }
 {
     match command_words(alloc, arguments) {

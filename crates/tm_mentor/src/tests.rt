@@ -137,19 +137,9 @@ fn runs_keep_to_their_options(rt: HostRuntime) -> Result<(), Fail> {
 }
 
 /// Words that spell a run, and the thread that it begins with.
-const TAKEN: [(&str, &str); 10] = [
+const TAKEN: [(&str, &str); 3] = [
     ("run", "1 1 A.1 A.1 begin ok [R--]"),
-    ("run --schedule 0", "1 1 A.1 A.1 begin ok [R--]"),
-    ("run --schedule 1", "1 1 C.1 C.1 begin ok [--R]"),
     ("run --schedule=1", "1 1 C.1 C.1 begin ok [--R]"),
-    ("run --schedule 0001", "1 1 C.1 C.1 begin ok [--R]"),
-    ("run --events=1", "1 1 A.1 A.1 begin ok [R--]"),
-    ("run --events 010000", "1 1 A.1 A.1 begin ok [R--]"),
-    (
-        "run --schedule=1 --events=1000",
-        "1 1 C.1 C.1 begin ok [--R]",
-    ),
-    ("run --events 2 --schedule 1", "1 1 C.1 C.1 begin ok [--R]"),
     ("run --events=2 --schedule 1", "1 1 C.1 C.1 begin ok [--R]"),
 ];
 
@@ -166,33 +156,14 @@ fn words_that_spell_a_run_are_taken(rt: HostRuntime) -> Result<(), Fail> {
     Ok(())
 }
 
-/// Words that spell no run.
-const REFUSED: [&str; 25] = [
+/// Words that spell no command.
+const REFUSED: [&str; 6] = [
     "",
     "help",
-    "run run",
-    "--schedule 1 run",
-    "--schedule=1",
-    "run --threads 1",
-    "run --",
-    "run -h",
-    "run --schedule",
-    "run --schedule=",
-    "run --schedule -1",
-    "run --schedule +1",
-    "run --schedule=+1",
-    "run --schedule 0x1",
-    "run --schedule 18446744073709551616",
-    "run --schedule 1 --schedule 1",
-    "run --schedule=1 --schedule 2",
-    "run --schedule 1 2",
-    "run --schedule --events 1",
-    "run --events",
+    "run --threads",
     "run --events 0",
-    "run --events 10001",
-    "run --events=4294967297",
-    "run --events 1 --schedule 2 --events=1",
-    "run --Schedule 1",
+    "make ring 61 1",
+    "large",
 ];
 
 #[test]
@@ -210,23 +181,38 @@ fn other_words_are_refused(rt: HostRuntime) -> Result<(), Fail> {
     Ok(())
 }
 
+/// A token that goes round two threads once.
+const RING: &str =
+    "sync c0\nsync c1\nthread T0\nrepeat 1\nsend c0 1\nrecv c1 r0\nend\nend\nthread T1\nrepeat 1\nrecv c0 r0\nsend c1 r0\nend\nend\n";
+
 #[test]
-fn a_blank_is_no_digit(rt: HostRuntime) -> Result<(), Fail> {
-    let mut words = Vec::new(rt.alloc());
-    for word in ["run", "--schedule", " 3"] {
-        words.push(String::from_str(rt.alloc(), word)?)?;
-    }
-    let mut source = MemorySource::make(rt.alloc(), IDLE.as_bytes(), &[])?;
-    let mut sink = MemorySink::make(rt.alloc(), 4096, &[])?;
-    let mut watchers = Vec::new(rt.alloc());
-    let outcome = mentor_alone(
-        rt.alloc(),
-        words.as_slice(),
-        &mut source,
-        &mut sink,
-        &mut watchers,
-    );
-    assert_eq!(rt; outcome.status, 2);
+fn an_exercise_is_made_in_one_piece(rt: HostRuntime) -> Result<(), Fail> {
+    let (outcome, sink) = command(rt.alloc(), "make ring 2 1", PAIR, &[1], &[2])?;
+    assert_eq!(rt; sink.bytes(), RING.as_bytes());
+    assert_eq!(rt; outcome.status, 0);
+    assert!(rt; outcome.finished.is_none());
+    let (outcome, sink) = command(rt.alloc(), "make ring 2 1", PAIR, &[], &[1])?;
+    assert!(rt; sink.bytes().is_empty());
+    assert_eq!(rt; outcome.status, 5);
+    Ok(())
+}
+
+/// The summary of the large run of the number 0.
+const LARGE: &str = "threads 64\nobjects 88\ncalls 19200\nwaits 4212\nstamp 2714\ndone 23540\n";
+
+#[test]
+fn a_large_run_is_summed_up_line_by_line(rt: HostRuntime) -> Result<(), Fail> {
+    let (outcome, sink) = command(rt.alloc(), "large 0", PAIR, &[1], &[])?;
+    assert_eq!(rt; sink.bytes(), LARGE.as_bytes());
+    assert_eq!(rt; outcome.status, 0);
+    let finished = outcome.finished.ok_or("no run")?;
+    assert_eq!(rt; finished.shown.len(), 23_540);
+    assert!(rt; !finished.write_fault);
+    let (outcome, sink) = command(rt.alloc(), "large 0", PAIR, &[], &[3])?;
+    assert_eq!(rt; sink.bytes(), b"threads 64\nobjects 88\n".as_slice());
+    assert_eq!(rt; outcome.status, 5);
+    let finished = outcome.finished.ok_or("no run")?;
+    assert!(rt; finished.write_fault);
     Ok(())
 }
 
@@ -361,10 +347,17 @@ fn without_memory_for_its_words_a_process_does_nothing(rt: HostRuntime) -> Resul
     Ok(())
 }
 
-/// Runs the exercise of this text, and tells the watchers of its events.
-fn watched(alloc: Global, text: &str, watchers: &mut Vec<Box<dyn Watcher>>) -> Result<u8, Fail> {
+/// Does what the words say with the text, and tells the watchers of the events.
+fn watched(
+    alloc: Global,
+    spoken: &str,
+    text: &str,
+    watchers: &mut Vec<Box<dyn Watcher>>,
+) -> Result<u8, Fail> {
     let mut words = Vec::new(alloc);
-    words.push(String::from_str(alloc, "run")?)?;
+    for word in spoken.split_whitespace() {
+        words.push(String::from_str(alloc, word)?)?;
+    }
     let mut source = MemorySource::make(alloc, text.as_bytes(), &[])?;
     let mut sink = MemorySink::make(alloc, 2000, &[])?;
     let outcome = mentor_alone(alloc, words.as_slice(), &mut source, &mut sink, watchers);
@@ -376,7 +369,7 @@ fn a_watcher_retires_at_the_first_stop_and_another_sees_all(rt: HostRuntime) -> 
     let mut watchers: Vec<Box<dyn Watcher>> = Vec::new(rt.alloc());
     watchers.push(Box::new(rt.alloc(), FirstStop::make())?)?;
     watchers.push(Box::new(rt.alloc(), Tally::make())?)?;
-    assert_eq!(rt; watched(rt.alloc(), CROSSED, &mut watchers)?, 6);
+    assert_eq!(rt; watched(rt.alloc(), "run", CROSSED, &mut watchers)?, 6);
     assert_eq!(rt; watchers.len(), 1);
     let left = watchers.first().ok_or("none is left")?;
     assert_eq!(rt; left.seen(), 12);
@@ -389,8 +382,18 @@ fn a_hundred_watchers_see_all_events(rt: HostRuntime) -> Result<(), Fail> {
     for _ in 0..100 {
         watchers.push(Box::new(rt.alloc(), Tally::make())?)?;
     }
-    assert_eq!(rt; watched(rt.alloc(), PAIR, &mut watchers)?, 0);
+    assert_eq!(rt; watched(rt.alloc(), "run", PAIR, &mut watchers)?, 0);
     assert_eq!(rt; watchers.len(), 100);
     assert!(rt; watchers.iter().all(|watcher| watcher.seen() == 9));
+    Ok(())
+}
+
+#[test]
+fn a_large_run_is_watched_too(rt: HostRuntime) -> Result<(), Fail> {
+    let mut watchers: Vec<Box<dyn Watcher>> = Vec::new(rt.alloc());
+    watchers.push(Box::new(rt.alloc(), Tally::make())?)?;
+    assert_eq!(rt; watched(rt.alloc(), "large 0", "", &mut watchers)?, 0);
+    let left = watchers.first().ok_or("none is left")?;
+    assert_eq!(rt; left.seen(), 23_540);
     Ok(())
 }

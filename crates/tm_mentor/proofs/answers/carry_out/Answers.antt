@@ -1,5 +1,9 @@
-use Rattle.tm_mentor.proofs.Limited.{run-limited}
+use Rattle.std.proofs.Common.{subst}
+use Rattle.tm_words.specs.Commands.{IsWithinLimits}
+use Rattle.tm_words.proofs.Limits.{within_limits}
 use Rattle.tm_mentor.proofs.answers.carry_out.Goals as goal
 
-pub alone-requires : goal.alone-requires
-alone-requires g c = record { limit = run-limited c.args.words.now c.in-Ok.field-0.rules c.in-Ok.ensures.found.spelled }
+pub run-requires : goal.run-requires
+run-requires g c =
+    let within = within_limits c.args.words.now c.in-Some-Run.field-0 c.in-Some-Run.ensures.spelled in
+    record { limit = subst IsWithinLimits c.in-Some-Run.field-0-is within }
