@@ -1,4 +1,4 @@
-//! Runs the exercise that standard input has, and writes its rows to standard output.
+//! Does what its arguments say: runs an exercise, judges a trace, or writes a ready-made exercise.
 #![tactic(auto)]
 
 use std::process::ExitCode;
