@@ -45,7 +45,7 @@ fn summarized<K: Sink>(
     ensures never_falls { K.fault_count sink.old ≤ K.fault_count sink.new }
 {
     let exercise = large(alloc, number)?;
-    // A sink without room fails at the first row, after which no row is made.
+    // A sink without room fails at the first row, after which none is written.
     let mut no_rows = MemorySink::make(alloc, 0, &[])?;
     let finished = alone(
         alloc,
