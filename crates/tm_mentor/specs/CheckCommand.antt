@@ -9,6 +9,7 @@ use Rattle.tm_lines.specs.declared.faults.FaultyLine.{FaultyLine}
 use Rattle.tm_text.specs.Exercises.{ExerciseView}
 use Rattle.tm_order.specs.LegalEvents.{AreLegal}
 use Rattle.tm_trace.specs.declared.faults.JudgeFault.{JudgeFault}
+use Rattle.tm_trace.specs.declared.faults.JudgeFault.TheVariants as judged
 use Rattle.tm_trace.specs.Judging.{IsAccepted, IsFault}
 use Rattle.tm_trace_texts.specs.declared.limits.TheConstants.{MOST_TRACE_BYTES}
 use Rattle.tm_trace_texts.specs.declared.trace_faults.TraceFault.TheVariants as fault
@@ -85,9 +86,15 @@ pub record SendsLegal (x : ExerciseView) (es : List Entry) (old new : Output) (f
   pub text : IsLegalText x order bytes
   pub whole : Sends failed old new bytes
 
+-- The fault says something of the events: it isn't want of memory, which has no lines.
+abbrev pub SaysWhy : JudgeFault → Type 0
+SaysWhy judged.NoMemory = ⊥
+SaysWhy f = Unit {0}
+
 -- No order of the events is a legal run, and the lines of the first fault were sent.
 pub record SendsIllegal (x : ExerciseView) (es : List Entry) (old new : Output) (failed : Bool) : Type 0 where
   pub fault : JudgeFault
+  pub why : SaysWhy fault
   pub first : IsFault x es fault
   pub illegal : AreLegal x es → ⊥
   pub whole : Sends failed old new (refusal_text x fault)
