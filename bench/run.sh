@@ -9,9 +9,9 @@
 # program does. Each time is the best of three. Beside the events and the seconds stands how many times
 # more they are than in the line above: where the two are alike, the time grows as the events do.
 #
-# Where valgrind is there, a second table counts the instructions of the program for each event and for each
-# byte of a text, which come out the same on every machine of one kind, and where python3 is there, a third
-# line says how much memory the longest run takes for each event.
+# Where valgrind is there, a second table counts the instructions of the program for each event of a run or a trace,
+# and for each byte of a text, which come out the same on every machine of one kind. Where python3 is there, the last
+# lines say how much memory the longest run and the longest trace take for each event.
 set -eu
 export LC_ALL=C
 
@@ -91,6 +91,29 @@ instructions_of_run() {
         'BEGIN { printf "%-52s %8d %8.0f\n", name, events, count / events }'
 }
 
+# Prints the line of a trace that is judged, the exercise's rows from the last run in the order that the command gives
+# them: what it is, how many events it has, and the instructions for each.
+instructions_of_trace() {
+    local name=$1
+    shift
+    head -n -1 "$room/rows" >"$room/events"
+    { cat "$room/exercise" && echo trace && "$@" <"$room/events"; } >"$room/trace"
+    count_instructions "$room/trace" check
+    read -r word events < <(tail -n 1 "$room/rows")
+    [ "$word" = legal ] || exit 1
+    awk -v name="$name" -v events="$events" -v count="$count" \
+        'BEGIN { printf "%-52s %8d %8.0f\n", name, events, count / events }'
+}
+
+# Prints the line of the large run that this number makes: how many events it has, and the instructions for each.
+instructions_of_large() {
+    count_instructions /dev/null large "$1"
+    read -r word events < <(tail -n 1 "$room/rows")
+    [ "$word" = done ] || exit 1
+    awk -v number="$1" -v events="$events" -v count="$count" \
+        'BEGIN { printf "%-52s %8d %8.0f\n", "large " number ", no rows", events, count / events }'
+}
+
 # Prints the line of a text that is read: what it is, how many bytes it has, and the instructions for each.
 instructions_of_text() {
     count_instructions "$room/exercise" run
@@ -147,8 +170,12 @@ if command -v valgrind >/dev/null; then
     instructions_of_run '64 threads on 8 mutexes, schedule 7' --schedule 7
     repeated 'var x 0' 20 10000 'add x 1' >"$room/exercise"
     instructions_of_run '20 threads add to a variable'
+    instructions_of_trace 'the rows of these, judged' cat
+    instructions_of_trace 'the same in reversed order' tac
     repeated 'var x 0' 64 10000 'add x 1' >"$room/exercise"
     instructions_of_run '64 threads add to a variable'
+    instructions_of_trace 'the rows of these, judged' cat
+    instructions_of_large 7
     printf '\n%-52s %8s %8s\n' text bytes 'instr.'
     unended 1190 'lock mutex_of_all;read counter r0;add counter 1;write counter r0;unlock mutex_of_all;p a;v a' \
         >"$room/exercise"
@@ -159,13 +186,23 @@ fi
 
 if command -v python3 >/dev/null; then
     repeated 'var x 0' 64 10000 'add x 1' >"$room/exercise"
-    python3 - "$program" "$room/exercise" <<'END'
-import resource, subprocess, sys
+    "$program" run --events 10000 <"$room/exercise" >"$room/rows"
+    { cat "$room/exercise" && echo trace && head -n -1 "$room/rows"; } >"$room/trace"
+    # Says how much memory a command takes over the file, beyond what is said, for each event.
+    memory() {
+        python3 - "$program" "$@" <<'END'
+import os, resource, subprocess, sys
 
-program, text = sys.argv[1:]
-run = subprocess.run([program, "run", "--events", "10000"], stdin=open(text), stdout=subprocess.PIPE)
+program, name, text, beyond, *words = sys.argv[1:]
+run = subprocess.run([program, *words], stdin=open(text), stdout=subprocess.PIPE)
 events = int(run.stdout.split()[-1])
-kilobytes = resource.getrusage(resource.RUSAGE_CHILDREN).ru_maxrss
-print(f"\nmemory of the last run: {kilobytes * 1024 / events:.0f} bytes an event")
+peak = resource.getrusage(resource.RUSAGE_CHILDREN).ru_maxrss * 1024
+if beyond == "input":
+    peak -= os.path.getsize(text)
+print(f"memory of {name}: {peak / events:.0f} bytes an event")
 END
+    }
+    printf '\n'
+    memory 'the last run' "$room/exercise" nothing run --events 10000
+    memory 'its trace, beside the text' "$room/trace" input check
 fi
