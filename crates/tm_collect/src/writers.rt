@@ -112,6 +112,10 @@ impl<'x> Writer<'x> {
             return Err(Stop::Illegal(illegal));
         }
         tell(watchers, &entry);
+        if self.write_fault {
+            // No row is made that nobody would see.
+            return Ok(());
+        }
         let number = self.joint.applied();
         let bars = self.joint.bars();
         self.row.clear();

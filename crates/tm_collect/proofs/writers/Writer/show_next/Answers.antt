@@ -1,4 +1,4 @@
-use Rattle.std.proofs.Common.{◌≡◌, ◌+◌, ◌++◌, ℕ, List, length, slice_get, Some, slice_index_or, ◌<◌, ◌≤◌, refl, sym, ap, ◌∙◌, subst, arith}
+use Rattle.std.proofs.Common.{◌≡◌, Bool, true, MatchBool, ◌+◌, ◌++◌, ℕ, List, length, slice_get, Some, slice_index_or, ◌<◌, ◌≤◌, refl, sym, ap, ◌∙◌, subst, arith}
 use Rattle.std.proofs.lemmas.Option.{slice_get-get_or}
 use Rattle.tm_base.specs.declared.events.Entry.{Entry}
 use Rattle.tm_base.specs.declared.operations.Op.TheVariants as op
@@ -13,9 +13,10 @@ use Rattle.tm_joint.specs.declared.refusals.Illegal.{Illegal}
 use Rattle.tm_joint.specs.Joints.{JointView}
 use Rattle.tm_joint.specs.Refusals.{IsIllegal}
 use Rattle.tm_collect.specs.Advancing.{Shows, IsNextIllegal, Advances}
-use Rattle.tm_collect.specs.Sending.{Outlet}
+use Rattle.tm_collect.specs.Sending.{Outlet, IsSent, Sends}
 use Rattle.tm_collect.proofs.AdvancingLemmas.{Advances-one, Shows-none, bars-count, step-names}
 use Rattle.tm_collect.proofs.SendingLemmas.{SendsPrefix-none}
+use Rattle.tm_collect.proofs.WatchingLemmas.{told-one}
 use Rattle.tm_collect.proofs.writers.Writer.show_next.Goals as goal
 
 stopped : (x : ExerciseView) (es : List Entry) (v w : JointView) (o : Outlet) (e : Entry) (i : Illegal) → v.exercise ≡ x → w ≡ v → v.applied ≤ length es → slice_get es v.applied ≡ Some e
@@ -88,3 +89,31 @@ returns-clause-shows g c =
       advances = subst (λ (u : JointView). Advances c.args.self.now.exercise.now c.args.shown.now c.args.self.now.joint u line) (sym c.send_row.ensures.joint) one;
       sent = c.send_row.ensures.sent;
     }
+
+-- nothing is sent where a write failed before
+nothing_sent : (o : Outlet) (line : List ℕ) → o.failed ≡ true → Sends o o line
+nothing_sent o line failed = subst (λ (b : Bool). MatchBool b (o ≡ o) (IsSent o o line)) (sym failed) refl
+
+pub returns-then-self-clause-shows : goal.returns-then-self-clause-shows
+returns-then-self-clause-shows g c =
+    let x = c.args.self.now.exercise.now in
+    let w = c.apply.new.self in
+    let e = slice_index_or c.args.shown.now c.applied-before.result (record { thread = 0; place = 0; object = 0; at = 0; stamp = 0; op = op.Lock; reply = reply.Ok }) in
+    let line = row_of x w.applied e (bars_of w.state) in
+    record {
+      rows = line;
+      advances = advanced x c.args.shown.now c.args.self.now.joint w c.applied-before.result _ w.applied (bars_of w.state) line c.requires.exercise c.requires.left
+          c.applied-before.ensures.value c.in_default.ensures.step c.in_default.ensures.counted c.in_default.ensures.exercise refl refl refl;
+      sent = nothing_sent _ line c.if-self.true;
+    }
+
+pub returns-in_default-append_row-clause-watched : goal.returns-in_default-append_row-clause-watched
+returns-in_default-append_row-clause-watched g c =
+    told-one _ _ c.args.shown.now c.args.self.now.joint.applied c.apply.new.self.applied _
+    (there c.args.shown.now c.args.self.now.joint.applied c.applied-before.result _ c.applied-before.ensures.value c.requires.left) c.in_default.ensures.counted c.tell.ensures
+
+pub returns-clause-watched : goal.returns-clause-watched
+returns-clause-watched g c =
+    told-one _ _ c.args.shown.now c.args.self.now.joint.applied c.send_row.new.self.joint.applied _
+    (there c.args.shown.now c.args.self.now.joint.applied c.applied-before.result _ c.applied-before.ensures.value c.requires.left)
+    (ap (λ (u : JointView). u.applied) c.send_row.ensures.joint ∙ c.in_default.ensures.counted) c.tell.ensures
