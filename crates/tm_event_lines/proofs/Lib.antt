@@ -2,6 +2,7 @@ mod WordLemmas
 mod PlaceLemmas
 mod BarLemmas
 mod NameLemmas
+mod IndexLemmas
 mod FaultLemmas
 mod TraceableLemmas
 mod WrittenEvents

@@ -1,15 +1,14 @@
-ghost use Rattle.std.specs.Prelude.{◌≡◌, ◌<◌, ◌==◌, true, false, length, IfSome, MatchOption, OnSome};
+ghost use Rattle.std.specs.Prelude.{◌≡◌, ◌==◌, true, false, MatchOption, OnSome};
 ghost use Rattle.std.specs.List.{position_or_len};
 ghost use Rattle.tm_text.specs.Exercises.{IsWellFormed};
-ghost use Rattle.tm_text.specs.Texts.{number_in};
 ghost use Rattle.tm_event_lines.specs.EventFaults.{has_unknown_name};
 ghost use Rattle.tm_event_lines.specs.EventWords.{parts_in};
 ghost use Rattle.tm_event_lines.specs.SaidWords.{granted_of, name_in, names_said, place_in, thread_in, thread_named};
 
 use crate::event_words::EventWords;
+use crate::named_objects::NamedObjects;
 use crate::reply_words::is_gave;
 use tm_base::Kind;
-use tm_text::Exercise;
 
 /// The threads and the object that an event line names.
 #[derive(Clone, Copy, Debug)]
@@ -23,16 +22,16 @@ pub struct EventNames {
 
 impl EventNames {
     /// The threads and the object that these words name. `None` exactly where one of them isn't known.
-    pub fn of_words(exercise: &Exercise, words: &EventWords) -> Option<EventNames>
-        ensures names { MatchOption result (has_unknown_name exercise.now.objects (parts_in words.now) ≡ true)
-            (λ names. (has_unknown_name exercise.now.objects (parts_in words.now) ≡ false)
-            × (names ≡ names_said exercise.now.objects (parts_in words.now))) }
+    pub fn of_words(objects: &NamedObjects, words: &EventWords) -> Option<EventNames>
+        ensures names { MatchOption result (has_unknown_name objects.now.objects (parts_in words.now) ≡ true)
+            (λ names. (has_unknown_name objects.now.objects (parts_in words.now) ≡ false)
+            × (names ≡ names_said objects.now.objects (parts_in words.now))) }
         // Every exercise is, which is known once its objects are looked at.
-        ensures well_formed { OnSome result (IsWellFormed exercise.now) }
+        ensures well_formed { OnSome result (IsWellFormed objects.now) }
     {
-        let thread = thread_named(exercise, name_in(words.thread))?;
-        let object = object_named(exercise, name_in(words.object))?;
-        let granted = granted_of(exercise, words)?;
+        let thread = thread_named(objects, name_in(words.thread))?;
+        let object = objects.number(name_in(words.object))?;
+        let granted = granted_of(objects, words)?;
         Some(EventNames {
             thread,
             object,
@@ -68,48 +67,34 @@ fn name_len(word: &[u8]) -> usize
 }
 
 /// The thread with the name; `main` is thread 0.
-fn thread_named(exercise: &Exercise, name: &[u8]) -> Option<u32>
-    ensures { result ≡ thread_named exercise.now.objects name.now }
+fn thread_named(objects: &NamedObjects, name: &[u8]) -> Option<u32>
+    ensures { result ≡ thread_named objects.now.objects name.now }
 {
     if name == b"main".as_slice() {
         Some(0)
     } else {
-        thread_in(exercise, name)
+        thread_in(objects, name)
     }
 }
 
 /// The thread with a program that has the name.
-fn thread_in(exercise: &Exercise, name: &[u8]) -> Option<u32>
-    ensures { result ≡ thread_in exercise.now.objects name.now }
+fn thread_in(objects: &NamedObjects, name: &[u8]) -> Option<u32>
+    ensures { result ≡ thread_in objects.now.objects name.now }
 {
-    let object = object_named(exercise, name)?;
-    match exercise.kind(object) {
+    let object = objects.number(name)?;
+    match objects.kind(object) {
         Kind::Thread { own, .. } => Some(own),
         _ => None,
     }
 }
 
 /// The thread that the reply names, which has a program; 0 where the reply names none.
-fn granted_of(exercise: &Exercise, words: &EventWords) -> Option<u32>
-    ensures { result ≡ granted_of exercise.now.objects (parts_in words.now) }
+fn granted_of(objects: &NamedObjects, words: &EventWords) -> Option<u32>
+    ensures { result ≡ granted_of objects.now.objects (parts_in words.now) }
 {
     if is_gave(words.reply) {
-        thread_in(exercise, words.detail)
+        thread_in(objects, words.detail)
     } else {
         Some(0)
     }
-}
-
-/// The number of the object with the name.
-fn object_named(exercise: &Exercise, name: &[u8]) -> Option<u32>
-    ensures number { result ≡ number_in 0 exercise.now.objects name.now }
-    ensures known { IfSome result (λ object. object < length exercise.now.objects) }
-    ensures well_formed { IsWellFormed exercise.now }
-{
-    for object in 0..exercise.objects() {
-        if exercise.name(object).bytes() == name {
-            return Some(object);
-        }
-    }
-    None
 }

@@ -1,4 +1,4 @@
-use crate::read_event;
+use crate::{EventReader, read_event};
 use std::process::Abort;
 use std::test::Fail;
 use tm_base::{Entry, Op, Reply};
@@ -152,16 +152,19 @@ A.1 A.1 A.1 begin ok";
 #[test]
 fn event_lines_say_their_events(rt: HostRuntime) -> Result<(), Fail> {
     let exercise = read(rt.alloc(), TEXT.as_bytes())?;
-    all_say(&rt, &exercise, BEGINS, BEGIN);
+    let reader = EventReader::make(rt.alloc(), &exercise)?;
+    all_say(&rt, &exercise, &reader, BEGINS, BEGIN);
     all_say(
         &rt,
         &exercise,
+        &reader,
         "9223372036854775807 main.9223372036854775807 m.3 stop ok [--]",
         STOP,
     );
     calls_say(
         &rt,
         &exercise,
+        &reader,
         "1 A.1 A.1 read got -9223372036854775808 [RR]",
         Op::Read,
         Reply::Got(-9223372036854775808),
@@ -169,6 +172,7 @@ fn event_lines_say_their_events(rt: HostRuntime) -> Result<(), Fail> {
     calls_say(
         &rt,
         &exercise,
+        &reader,
         "3 1 A.1 A.1 add 9223372036854775807 got -007 []",
         Op::Add(9223372036854775807),
         Reply::Got(-7),
@@ -176,6 +180,7 @@ fn event_lines_say_their_events(rt: HostRuntime) -> Result<(), Fail> {
     calls_say(
         &rt,
         &exercise,
+        &reader,
         "1 A.1 A.1 write -0 ok",
         Op::Write(0),
         Reply::Ok,
@@ -183,6 +188,7 @@ fn event_lines_say_their_events(rt: HostRuntime) -> Result<(), Fail> {
     calls_say(
         &rt,
         &exercise,
+        &reader,
         "1 A.1 A.1 send -1 closed",
         Op::Send(-1),
         Reply::Closed,
@@ -190,6 +196,7 @@ fn event_lines_say_their_events(rt: HostRuntime) -> Result<(), Fail> {
     calls_say(
         &rt,
         &exercise,
+        &reader,
         "1 A.1 A.1 wait 15 wait",
         Op::Wait(15),
         Reply::Wait,
@@ -197,6 +204,7 @@ fn event_lines_say_their_events(rt: HostRuntime) -> Result<(), Fail> {
     calls_say(
         &rt,
         &exercise,
+        &reader,
         "1 A.1 A.1 signal -0 notowner",
         Op::Signal(0),
         Reply::NotOwner,
@@ -204,14 +212,23 @@ fn event_lines_say_their_events(rt: HostRuntime) -> Result<(), Fail> {
     calls_say(
         &rt,
         &exercise,
+        &reader,
         "1 A.1 A.1 start gave B",
         Op::Start,
         Reply::Gave(2),
     );
-    calls_say(&rt, &exercise, "1 A.1 A.1 begin cut", Op::Begin, Reply::Cut);
     calls_say(
         &rt,
         &exercise,
+        &reader,
+        "1 A.1 A.1 begin cut",
+        Op::Begin,
+        Reply::Cut,
+    );
+    calls_say(
+        &rt,
+        &exercise,
+        &reader,
         "1 A.1 A.1 end cut",
         Op::End { cut: true },
         Reply::Cut,
@@ -219,6 +236,7 @@ fn event_lines_say_their_events(rt: HostRuntime) -> Result<(), Fail> {
     calls_say(
         &rt,
         &exercise,
+        &reader,
         "1 A.1 A.1 end wait",
         Op::End { cut: false },
         Reply::Wait,
@@ -229,39 +247,50 @@ fn event_lines_say_their_events(rt: HostRuntime) -> Result<(), Fail> {
 #[test]
 fn each_faulty_line_has_the_first_kind_that_applies(rt: HostRuntime) -> Result<(), Fail> {
     let exercise = read(rt.alloc(), TEXT.as_bytes())?;
-    has_a_byte_fault(&rt, &exercise, b"1 A.1 A.1 begin\x00 ok");
-    has_a_byte_fault(&rt, &exercise, b"1 A.1 A.1 foo \x80");
-    has_a_byte_fault(&rt, &exercise, b"1 A.1 A.1 begin ok\r");
-    all_have(&rt, &exercise, UNKNOWN_WORDS, Fault::Word);
-    all_have(&rt, &exercise, WRONG_COUNTS, Fault::Count);
-    all_have(&rt, &exercise, UNKNOWN_NAMES, Fault::Unknown);
-    all_have(&rt, &exercise, WRONG_NUMBERS, Fault::Number);
+    let reader = EventReader::make(rt.alloc(), &exercise)?;
+    has_a_byte_fault(&rt, &exercise, &reader, b"1 A.1 A.1 begin\x00 ok");
+    has_a_byte_fault(&rt, &exercise, &reader, b"1 A.1 A.1 foo \x80");
+    has_a_byte_fault(&rt, &exercise, &reader, b"1 A.1 A.1 begin ok\r");
+    all_have(&rt, &exercise, &reader, UNKNOWN_WORDS, Fault::Word);
+    all_have(&rt, &exercise, &reader, WRONG_COUNTS, Fault::Count);
+    all_have(&rt, &exercise, &reader, UNKNOWN_NAMES, Fault::Unknown);
+    all_have(&rt, &exercise, &reader, WRONG_NUMBERS, Fault::Number);
     Ok(())
 }
 
-/// Each of the lines says the event.
-fn all_say(rt: &impl Abort, exercise: &Exercise, lines: &str, entry: Entry) {
+/// Each of the lines says the event, read with an index of names and without.
+fn all_say(rt: &impl Abort, exercise: &Exercise, reader: &EventReader, lines: &str, entry: Entry) {
     for line in lines.split('\n') {
-        let event = read_event(exercise, line.as_bytes());
-        assert_eq!(rt; event, Ok(entry), "at {line}");
+        let bytes = line.as_bytes();
+        assert_eq!(rt; read_event(exercise, bytes), Ok(entry), "at {line}");
+        assert_eq!(rt; reader.read(bytes), Ok(entry), "at {line}");
     }
 }
 
 /// The line says that `A` does this in place of its beginning, and that this is the reply.
-fn calls_say(rt: &impl Abort, exercise: &Exercise, line: &str, op: Op, reply: Reply) {
+fn calls_say(
+    rt: &impl Abort,
+    exercise: &Exercise,
+    reader: &EventReader,
+    line: &str,
+    op: Op,
+    reply: Reply,
+) {
     let entry = Entry { op, reply, ..BEGIN };
-    all_say(rt, exercise, line, entry);
+    all_say(rt, exercise, reader, line, entry);
 }
 
-/// Each of the lines has this kind of fault.
-fn all_have(rt: &impl Abort, exercise: &Exercise, lines: &str, fault: Fault) {
+/// Each of the lines has this kind of fault, read with an index of names and without.
+fn all_have(rt: &impl Abort, exercise: &Exercise, reader: &EventReader, lines: &str, fault: Fault) {
     for line in lines.split('\n') {
-        let event = read_event(exercise, line.as_bytes());
-        assert_eq!(rt; event, Err(fault), "at {line}");
+        let bytes = line.as_bytes();
+        assert_eq!(rt; read_event(exercise, bytes), Err(fault), "at {line}");
+        assert_eq!(rt; reader.read(bytes), Err(fault), "at {line}");
     }
 }
 
 /// A byte of the line may not stand there.
-fn has_a_byte_fault(rt: &impl Abort, exercise: &Exercise, line: &[u8]) {
+fn has_a_byte_fault(rt: &impl Abort, exercise: &Exercise, reader: &EventReader, line: &[u8]) {
     assert_eq!(rt; read_event(exercise, line), Err(Fault::Byte));
+    assert_eq!(rt; reader.read(line), Err(Fault::Byte));
 }

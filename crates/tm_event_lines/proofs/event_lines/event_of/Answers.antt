@@ -5,11 +5,11 @@ use Rattle.tm_event_lines.specs.EventWords.{parts_in, parts_of}
 use Rattle.tm_event_lines.specs.SaidWords.{entry_by, entry_said, names_said}
 use Rattle.tm_event_lines.proofs.FaultLemmas.{none_applies}
 use Rattle.tm_event_lines.proofs.TraceableLemmas.{traceable}
-use Rattle.tm_event_lines.proofs.event_lines.read_event.Goals as goal
+use Rattle.tm_event_lines.proofs.event_lines.event_of.Goals as goal
 
 pub returns-clause-read : goal.returns-clause-read
 returns-clause-read c =
-    let x = c.args.exercise.now in
+    let x = c.args.objects.now in
     let line = c.args.line.now in
     let q = parts_in c.of_line-words.result in
     let p = parts_of (words_of line) in
@@ -29,4 +29,4 @@ returns-clause-read c =
 
 pub returns-clause-traceable : goal.returns-clause-traceable
 returns-clause-traceable c =
-    traceable c.args.exercise.now c.args.line.now c.entry_by.result c.in-Some.ensures.well_formed (returns-clause-read c)
+    traceable c.args.objects.now c.args.line.now c.entry_by.result c.in-Some.ensures.well_formed (returns-clause-read c)

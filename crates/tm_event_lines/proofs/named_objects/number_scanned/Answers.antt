@@ -1,7 +1,7 @@
 use Rattle.std.proofs.Common.{◌≡◌, ◌<◌, true, false, length, sym, ap, ◌∙◌, arith}
 use Rattle.std.specs.Str.{bytes_eq}
 use Rattle.tm_event_lines.proofs.NameLemmas.{number_in-here, number_in-later}
-use Rattle.tm_event_lines.proofs.event_names.object_named.Goals as goal
+use Rattle.tm_event_lines.proofs.named_objects.number_scanned.Goals as goal
 
 pub returns-then-eq-clause-number : goal.returns-then-eq-clause-number
 returns-then-eq-clause-number c =
