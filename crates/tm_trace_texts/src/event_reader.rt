@@ -8,7 +8,7 @@ use crate::trace_faults::TraceFault;
 use crate::trace_lines::is_passed_over;
 use std::alloc::Global;
 use tm_base::Entry;
-use tm_event_lines::read_event;
+use tm_event_lines::EventReader;
 use tm_lines::{first_line, without_cr};
 use tm_text::Exercise;
 
@@ -24,12 +24,13 @@ pub fn read_events(
     ensures refused { IfErr result
         (λ why. Refuses why (first_event_fault exercise.now first (text_lines text.now))) }
 {
+    let reader = EventReader::make(alloc, exercise)?;
     let mut entries = Vec::new(alloc);
     let mut number = first;
     let mut rest = text;
     while !rest.is_empty() {
         let (line, behind) = first_line(rest);
-        read_line(&mut entries, exercise, number, without_cr(line))?;
+        read_line(&mut entries, &reader, number, without_cr(line))?;
         number += 1;
         rest = behind;
     }
@@ -39,19 +40,19 @@ pub fn read_events(
 /// Appends the event that the line says, unless the line is passed over.
 fn read_line(
     entries: &mut Vec<Entry>,
-    exercise: &Exercise,
+    reader: &EventReader,
     number: u64,
     line: &[u8],
 ) -> Result<(), TraceFault>
-    requires { AreTraceable exercise.now entries.old.items }
-    ensures read { OnOk result (Reads exercise.now number line.now entries.old.items entries.new.items) }
-    ensures traceable { OnOk result (AreTraceable exercise.now entries.new.items) }
-    ensures refused { IfErr result (RefusesLine exercise.now number line.now) }
+    requires { AreTraceable reader.now entries.old.items }
+    ensures read { OnOk result (Reads reader.now number line.now entries.old.items entries.new.items) }
+    ensures traceable { OnOk result (AreTraceable reader.now entries.new.items) }
+    ensures refused { IfErr result (RefusesLine reader.now number line.now) }
 {
     if is_passed_over(line) {
         return Ok(());
     }
-    match read_event(exercise, line) {
+    match reader.read(line) {
         Err(kind) => Err(TraceFault::Line { line: number, kind }),
         Ok(entry) => match entries.push(entry) {
             Ok(()) => Ok(()),

@@ -16,11 +16,11 @@ pushed x es fs a more before here e there = ⊎_elim
 
 pub returns-in-Ok-push-clause-read : goal.returns-in-Ok-push-clause-read
 returns-in-Ok-push-clause-read c =
-    let x = c.args.exercise.now in
+    let x = c.args.reader.now in
     let old = c.args.entries.now.items in
     subst (Reads x c.args.number c.args.line.now old) (sym c.in-Ok-push.ensures.items)
     (reads-event x c.args.number c.args.line.now old c.in-Ok.entry (sym c.is_passed_over.ensures ∙ c.if-is_passed_over.false) c.in-Ok.ensures.read)
 
 pub returns-in-Ok-push-clause-traceable : goal.returns-in-Ok-push-clause-traceable
 returns-in-Ok-push-clause-traceable c =
-    pushed c.args.exercise.now c.args.entries.now.items _ c.in-Ok.entry c.in-Ok-push.ensures.items c.requires c.in-Ok.ensures.traceable
+    pushed c.args.reader.now c.args.entries.now.items _ c.in-Ok.entry c.in-Ok-push.ensures.items c.requires c.in-Ok.ensures.traceable
