@@ -15,7 +15,7 @@ use Rattle.tm_trace_texts.specs.declared.limits.TheConstants.{MOST_TRACE_BYTES}
 use Rattle.tm_trace_texts.specs.declared.trace_faults.TraceFault.{TraceFault}
 use Rattle.tm_trace_texts.specs.declared.trace_faults.TraceFault.TheVariants as refusal
 use Rattle.tm_trace_texts.specs.Readings.{AreRead, Refuses, events_said, of_text_fault}
-use Rattle.tm_trace_texts.specs.TraceFaults.{IsAccepted, IsRefusal, TextsHaveOneTrace, fault_of_parts, first_event_fault, number_behind, trace_fault}
+use Rattle.tm_trace_texts.specs.TraceFaults.{IsFaultless, IsRefusal, TextsHaveOneTrace, fault_of_parts, first_event_fault, number_behind, trace_fault}
 use Rattle.tm_trace_texts.specs.TraceTexts.{AreEventLines, IsTraceText, event_lines, exercise_part, has_trace_line, lines_behind}
 use Rattle.tm_trace_texts.proofs.EventLinesLemmas.{faultless-lines, one-list, said-lines}
 
@@ -71,7 +71,7 @@ neither (Some f) b h = absurd (cc)
 within : (n : ℕ) → nat_lt MOST_TRACE_BYTES n ≡ false → n ≤ MOST_TRACE_BYTES
 within n h = grind (arith, nat_tests)
 
-accepted : (bytes : List ℕ) → IsAccepted bytes → (x : ExerciseView) × (es : List Entry) × IsTraceText bytes x es
+accepted : (bytes : List ℕ) → IsFaultless bytes → (x : ExerciseView) × (es : List Entry) × IsTraceText bytes x es
 accepted bytes h =
     let part = exercise_part bytes in
     let x = exercise_of part in

@@ -52,7 +52,7 @@ IsRefusal bytes (refusal.NoTraceLine lines) = LacksTraceLine bytes lines
 IsRefusal bytes refusal.NoMemory = Unit {0}
 
 -- A text of a trace has no fault, and has a line `trace`.
-pub record IsAccepted (bytes : List ℕ) : Type 0 where
+pub record IsFaultless (bytes : List ℕ) : Type 0 where
   pub faultless : trace_fault bytes ≡ None
   pub trace : has_trace_line bytes ≡ true
 
@@ -60,5 +60,5 @@ pub record IsAccepted (bytes : List ℕ) : Type 0 where
 pub record TextsHaveOneTrace : Type 0 where
   pub one : (bytes : List ℕ) (x y : ExerciseView) (es fs : List Entry) → IsTraceText bytes x es → IsTraceText bytes y fs
       → (x ≡ y) × (es ≡ fs)
-  pub faultless : (bytes : List ℕ) (x : ExerciseView) (es : List Entry) → IsTraceText bytes x es → IsAccepted bytes
-  pub some : (bytes : List ℕ) → IsAccepted bytes → (x : ExerciseView) × (es : List Entry) × IsTraceText bytes x es
+  pub faultless : (bytes : List ℕ) (x : ExerciseView) (es : List Entry) → IsTraceText bytes x es → IsFaultless bytes
+  pub some : (bytes : List ℕ) → IsFaultless bytes → (x : ExerciseView) × (es : List Entry) × IsTraceText bytes x es
