@@ -1,7 +1,14 @@
 pub mod SettingsSpelled
-pub mod SettingsRead
-pub mod SettingsMade
 pub mod NumbersLemmas
 pub mod PlanLemmas
 pub mod CommandLemmas
 pub mod Limits
+pub mod Walks
+pub mod FoundLemmas
+pub mod Choices
+pub mod RunWalk
+pub mod RulesLemmas
+pub mod CheckWalk
+pub mod LargeWalk
+pub mod MakeWalk
+pub mod PlansFound

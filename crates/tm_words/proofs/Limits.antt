@@ -3,10 +3,8 @@ use Rattle.std.proofs.Common.{ℕ, ◌≤◌, List, [], ◌∷◌, get_or, sym, 
 use Rattle.tm_base.specs.declared.rules.Rules.{Rules}
 use Rattle.tm_base.specs.declared.rules.TheConstants.{MOST_CALLS, USUAL_CALLS}
 use Rattle.tm_words.specs.declared.commands.Command.TheVariants.{Check, Large, Make, Run}
-use Rattle.tm_words.specs.declared.settings.Setting.{Setting}
-use Rattle.tm_words.specs.declared.settings.Setting.TheVariants.{Schedule, Events}
 use Rattle.tm_words.specs.Commands.{CommandsAreWithinLimits}
-use Rattle.tm_words.specs.RunWords.{AreSettings, limits_of}
+use Rattle.tm_words.specs.RunWords.{AreSettings, Events, Schedule, Setting, limits_of}
 
 limits-small : (words : List (List ℕ)) (ss : List Setting) → AreSettings words ss → get_or (limits_of ss) 0 USUAL_CALLS ≤ MOST_CALLS
 limits-small words [] are = omega arith

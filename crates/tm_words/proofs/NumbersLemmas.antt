@@ -1,8 +1,8 @@
 -- What words that are numbers say word by word.
-use Rattle.std.proofs.Common.{◌≡◌, ℕ, ◌<◌, zero, suc, List, [], ◌∷◌, length, get_or, map, string_bytes, String, ◌^◌, ◌≤◌, ap, sym, subst, ◌∙◌, arith, refl}
+use Rattle.std.proofs.Common.{◌≡◌, ℕ, ◌<◌, zero, suc, List, [], ◌∷◌, length, get_or, Bor, ◌^◌, ◌≤◌, sym, subst, ◌∙◌, arith, refl}
 use Rattle.std.proofs.lemmas.List.{get_or-map}
 use Rattle.std.specs.List.{AllByRecursion}
-use Rattle.std.specs.declared.alloc.Global.{Global}
+use Rattle.clap.specs.Walk.{texts}
 use Rattle.tm_words.specs.Numbers.{IsNumber}
 use Rattle.tm_words.specs.MakeWords.{AreNumbers}
 
@@ -36,9 +36,9 @@ are-one (w ∷ ws) (m ∷ ms) (n ∷ ns) a b =
     let more = are-one ws ms ns a.1 b.1 in
     (cc)
 
--- the bytes of one word
-pub word-at : (ws : List (String Global)) (i : ℕ) (w : String Global) (bytes : List ℕ) → w ≡ get_or ws i w → i < length ws → bytes ≡ string_bytes w → get_or (map string_bytes ws) i [] ≡ bytes
-word-at ws i w bytes e h same = get_or-map string_bytes ws i w [] h ∙ ap string_bytes (sym e) ∙ sym same
+-- the text of one word
+pub word-at : (ws : List (Bor (List ℕ))) (i : ℕ) (d : Bor (List ℕ)) → i < length ws → get_or (texts ws) i [] ≡ (get_or ws i d).now
+word-at ws i d h = get_or-map (λ (t : Bor (List ℕ)). t.now) ws i d [] h
 
 pub all-at : (ns : List ℕ) (i : ℕ) → AllByRecursion (λ n. n < 2 ^ 32) ns → i < length ns → get_or ns i 0 < 2 ^ 32
 all-at [] i all h = absurd (omega arith)

@@ -3,10 +3,8 @@ use Rattle.std.proofs.Common.{◌≡◌, ℕ, List, [], ◌∷◌, ◌++◌, get
 use Rattle.std.proofs.lemmas.Bool.{false≢true}
 use Rattle.std.proofs.lemmas.Bool.Decides.{Decides-eqb}
 use Rattle.tm_base.specs.declared.rules.Rules.{Rules}
-use Rattle.tm_words.specs.declared.settings.Setting.{Setting}
-use Rattle.tm_words.specs.declared.settings.Setting.TheVariants.{Schedule, Events}
 use Rattle.tm_words.specs.Numbers.{IsNumber}
-use Rattle.tm_words.specs.RunWords.{AreOption, AreSettings, Begins, SpellsRules, rules_by, setting_value, option_word}
+use Rattle.tm_words.specs.RunWords.{AreOption, AreSettings, Begins, Events, Schedule, Setting, SpellsRules, option_word, rules_by, setting_value}
 
 -- the words begin with an option and its number, in two words or in one
 abbrev pub BeginsWith : List (List ℕ) → List ℕ → List ℕ → List (List ℕ) → Type 0

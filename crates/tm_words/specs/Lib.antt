@@ -1,6 +1,7 @@
 pub mod Numbers
 pub mod RunWords
-pub mod ChosenSettings
 pub mod MakeWords
 pub mod LargeWords
+pub mod SettingsSet
+pub mod CommandLines
 pub mod Commands

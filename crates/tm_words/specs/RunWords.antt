@@ -1,11 +1,14 @@
 -- What the words after `run` spell: settings, and the rules that they make.
 use Rattle.std.specs.Prelude.{◌≡◌, ℕ, ◌<◌, ◌≤◌, ◌^◌, ◌⊎◌, List, [], ◌∷◌, ◌++◌, length, codes, get_or}
 use Rattle.tm_base.specs.declared.rules.Rules.{Rules}
-use Rattle.tm_words.specs.declared.settings.Setting.{Setting}
-use Rattle.tm_words.specs.declared.settings.Setting.TheVariants.{Schedule, Events}
 use Rattle.tm_base.specs.declared.rules.TheConstants.{USUAL_CALLS}
 use Rattle.tm_words.specs.declared.settings.TheConstants.{FEWEST_EVENTS, MOST_EVENTS, USUAL_SCHEDULE}
 use Rattle.tm_words.specs.Numbers.{IsNumber}
+
+-- What an option sets: the schedule, or how many calls a thread may make.
+pub data Setting : Type 0 where
+  Schedule : ℕ → Setting
+  Events : ℕ → Setting
 
 -- The word of a setting's option.
 abbrev pub option_word : Setting → List ℕ

@@ -1,16 +1,16 @@
-ghost use Rattle.std.specs.Prelude.{◌≡◌, [], map, string_bytes, MatchOption};
-ghost use Rattle.tm_words.specs.declared.commands.Command.TheVariants.{Check};
+ghost use Rattle.std.specs.Prelude.{◌≡◌, [], IfOk, IsTrue, map, string_bytes, ◌↔◌};
 
-use crate::commands::Command;
+use crate::arguments::{bare_command, found_in, have_hyphens};
+use std::alloc::Global;
+use tm_base::NoMemory;
 
-/// The command to judge a trace, where no word follows `check`.
-pub(crate) fn check_of(words: &[String]) -> Option<Command>
-    ensures { MatchOption result (¬ (map string_bytes words.now ≡ []))
-        (λ command. (command ≡ Check) × (map string_bytes words.now ≡ [])) }
+/// Whether no word follows `check`.
+pub(crate) fn is_alone(alloc: Global, words: &[String]) -> Result<bool, NoMemory>
+    ensures { IfOk result (λ alone. IsTrue alone ↔ (map string_bytes words.now ≡ [])) }
 {
-    if words.is_empty() {
-        Some(Command::Check)
-    } else {
-        None
+    if have_hyphens(words) {
+        return Ok(false);
     }
+    let matches = found_in(bare_command(alloc, "check"), words)?;
+    Ok(matches.is_some())
 }

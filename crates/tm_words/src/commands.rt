@@ -1,12 +1,13 @@
-ghost use Rattle.std.specs.Prelude.{◌≡◌, map, string_bytes, MatchOption};
+ghost use Rattle.std.specs.Prelude.{◌≡◌, map, string_bytes, IfOk, MatchOption};
 ghost use Rattle.tm_words.specs.declared.commands.Command.{Command};
 ghost use Rattle.tm_words.specs.Commands.{CommandsAreWithinLimits, Spells, SpellsArguments, SpellsNothing, WordsSpellOneCommand, command_word};
 
-use crate::check_words::check_of;
+use crate::check_words::is_alone;
 use crate::large_words::number_of;
 use crate::make_words::plan_of;
 use crate::run_words::rules_of;
-use tm_base::Rules;
+use std::alloc::Global;
+use tm_base::{NoMemory, Rules};
 use tm_makers::Plan;
 
 /// What the program is asked to do.
@@ -24,25 +25,27 @@ pub enum Command {
 
 /// The command that the words after the program's name spell, if they spell one: `run` and options,
 /// `check` alone, `make` with a kind and its sizes, or `large` and a number. `None` where they spell none.
-pub fn spell(words: &[String]) -> Option<Command>
-    ensures spelled { MatchOption result (SpellsNothing words.now) (λ command. Spells words.now command) }
+pub fn spell(alloc: Global, words: &[String]) -> Result<Option<Command>, NoMemory>
+    ensures spelled { IfOk result (λ found. MatchOption found (SpellsNothing words.now) (λ command. Spells words.now command)) }
 {
-    let (first, arguments) = words.split_first()?;
-    command_of(first.as_str(), arguments)
+    let Some((first, arguments)) = words.split_first() else {
+        return Ok(None);
+    };
+    command_of(alloc, first.as_str(), arguments)
 }
 
 /// The command that begins with this word and goes on with these arguments, if there is one.
-fn command_of(word: &str, arguments: &[String]) -> Option<Command>
-    ensures { MatchOption result
+fn command_of(alloc: Global, word: &str, arguments: &[String]) -> Result<Option<Command>, NoMemory>
+    ensures { IfOk result (λ found. MatchOption found
         ((c : Command) → word.now ≡ command_word c → ¬ SpellsArguments (map string_bytes arguments.now) c)
-        (λ c. (word.now ≡ command_word c) × SpellsArguments (map string_bytes arguments.now) c) }
+        (λ c. (word.now ≡ command_word c) × SpellsArguments (map string_bytes arguments.now) c)) }
 {
     match word {
-        "run" => Some(Command::Run(rules_of(arguments)?)),
-        "check" => check_of(arguments),
-        "make" => Some(Command::Make(plan_of(arguments)?)),
-        "large" => Some(Command::Large(number_of(arguments)?)),
-        _ => None,
+        "run" => Ok(rules_of(alloc, arguments)?.map(Command::Run)),
+        "check" => Ok(is_alone(alloc, arguments)?.then_some(Command::Check)),
+        "make" => Ok(plan_of(alloc, arguments)?.map(Command::Make)),
+        "large" => Ok(number_of(alloc, arguments)?.map(Command::Large)),
+        _ => Ok(None),
     }
 }
 

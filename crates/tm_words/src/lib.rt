@@ -1,6 +1,7 @@
 //! What the words after the program's name spell: a command with its options, sizes or number.
 #![tactic(auto)]
 
+mod arguments;
 mod check_words;
 mod commands;
 mod large_words;

@@ -1,60 +1,60 @@
-ghost use Rattle.std.specs.Prelude.{◌∷◌, [], List, ℕ, map, string_bytes, MatchOption};
+ghost use Rattle.std.specs.Prelude.{◌≡◌, IfOk, MatchOption, map, string_bytes};
+ghost use Rattle.std.specs.List.{list_all};
+ghost use Rattle.clap.specs.Words.{app_of};
 ghost use Rattle.tm_base.specs.declared.rules.Rules.{Rules};
-ghost use Rattle.tm_words.specs.declared.settings.Setting.{Setting};
-ghost use Rattle.tm_words.specs.declared.settings.Chosen.{Chosen};
-ghost use Rattle.tm_words.specs.RunWords.{Begins, SpellsRules, SpellsSetting};
-ghost use Rattle.tm_words.specs.ChosenSettings.{Chooses};
+ghost use Rattle.tm_words.specs.RunWords.{SpellsRules};
+ghost use Rattle.tm_words.specs.CommandLines.{is_readable, run_app};
 
-use crate::settings::{Chosen, Setting, setting_of};
-use tm_base::Rules;
+use crate::arguments::{bare_command, found_in, is_hyphened};
+use crate::settings::rules_set;
+use clap::{Arg, ArgAction, Command};
+use std::alloc::{AllocError, Global};
+use tm_base::{NoMemory, Rules};
 
 /// The rules of the run that the words after `run` spell, if they spell one: options, each at most
 /// once, in any order.
-pub(crate) fn rules_of(words: &[String]) -> Option<Rules>
-    ensures { MatchOption result ((rules : Rules) → ¬ SpellsRules (map string_bytes words.now) rules)
-        (λ rules. SpellsRules (map string_bytes words.now) rules) }
+pub(crate) fn rules_of(alloc: Global, words: &[String]) -> Result<Option<Rules>, NoMemory>
+    ensures { IfOk result (λ found. MatchOption found
+        ((rules : Rules) → ¬ SpellsRules (map string_bytes words.now) rules)
+        (λ rules. SpellsRules (map string_bytes words.now) rules)) }
 {
-    let nothing = Chosen {
-        schedule: None,
-        events: None,
+    if !are_readable(words) {
+        return Ok(None);
+    }
+    let Some(matches) = found_in(run_command(alloc)?, words)? else {
+        return Ok(None);
     };
-    let chosen = choices(words, nothing)?;
-    Some(chosen.rules())
+    Ok(rules_set(matches.get_str("schedule"), matches.get_str("events")))
 }
 
-/// What is chosen after all the words, which are the spellings of settings. `None` where they
-/// aren't, or set something again.
-fn choices(words: &[String], before: Chosen) -> Option<Chosen>
-    ensures { MatchOption result ((after : Chosen) → ¬ Chooses (map string_bytes words.now) before after)
-        (λ after. Chooses (map string_bytes words.now) before after) }
+/// The command line of `run`: its options, each with a value.
+fn run_command<'a>(alloc: Global) -> Result<Command<'a>, AllocError>
+    ensures { IfOk result (λ command. app_of command ≡ run_app) }
 {
-    if words.is_empty() {
-        return Some(before);
-    }
-    let (setting, rest) = first_setting(words)?;
-    choices(rest, before.with(setting)?)
+    let schedule = Arg::new(alloc, "schedule")
+        .long("schedule")
+        .action(ArgAction::Set);
+    let events = Arg::new(alloc, "events")
+        .long("events")
+        .action(ArgAction::Set);
+    bare_command(alloc, "run").arg(schedule)?.arg(events)
 }
 
-/// The setting whose spelling the words begin with, and the words after it.
-fn first_setting(words: &[String]) -> Option<(Setting, &[String])>
-    ensures { MatchOption result
-        ((s : Setting) (back : List (List ℕ)) → ¬ Begins (map string_bytes words.now) s back)
-        (λ found. Begins (map string_bytes words.now) found.0 (map string_bytes found.1.now)) }
+/// Whether each word with a leading hyphen is the spelling of an option, so that `clap` isn't asked
+/// for what it has besides, as abbreviations and `--`.
+fn are_readable(words: &[String]) -> bool
+    ensures { result ≡ list_all (λ word. is_readable (string_bytes word)) words.now }
 {
-    let (first, rest) = words.split_first()?;
-    if let Some(setting) = joined_setting(first.as_str()) {
-        return Some((setting, rest));
-    }
-    let (second, rest) = rest.split_first()?;
-    let setting = setting_of(first.as_str(), second.as_str())?;
-    Some((setting, rest))
+    words.iter().all(|word| is_readable(word.as_str()))
 }
 
-/// The setting that one word spells, with `=` between the option and its value, if it spells one.
-fn joined_setting(word: &str) -> Option<Setting>
-    ensures { MatchOption result ((s : Setting) → ¬ SpellsSetting (word.now ∷ []) s)
-        (λ s. SpellsSetting (word.now ∷ []) s) }
+/// Whether the word is an option, alone or with its value, or begins with no hyphen.
+fn is_readable(word: &str) -> bool
+    ensures { result ≡ is_readable word.now }
 {
-    let (option, number) = word.split_once('=')?;
-    setting_of(option, number)
+    !is_hyphened(word)
+        || word == "--schedule"
+        || word.starts_with("--schedule=")
+        || word == "--events"
+        || word.starts_with("--events=")
 }

@@ -1,28 +1,10 @@
-ghost use Rattle.std.specs.Prelude.{◌≡◌, ◌∷◌, [], ◌≤◌, ℕ, MatchOption};
+ghost use Rattle.std.specs.Prelude.{◌≡◌, ◌≤◌, ℕ, MatchOption};
+ghost use Rattle.tm_base.specs.declared.rules.Rules.{Rules};
 ghost use Rattle.tm_words.specs.Numbers.{IsNumber};
-ghost use Rattle.tm_words.specs.RunWords.{SpellsSetting};
-ghost use Rattle.tm_words.specs.ChosenSettings.{chosen_with, rules_from};
+ghost use Rattle.tm_words.specs.SettingsSet.{AreSet, IsLimitSet, IsScheduleSet, text_of};
 
 use crate::numbers::value_of;
 use tm_base::{MOST_CALLS, Rules, USUAL_CALLS};
-
-/// What an option sets.
-#[derive(Clone, Copy, Debug, PartialEq, Eq)]
-pub(crate) enum Setting {
-    /// The schedule.
-    Schedule(u64),
-    /// How many calls a thread may make.
-    Events(u32),
-}
-
-/// The values that the options so far have set.
-#[derive(Clone, Copy, Debug, PartialEq, Eq)]
-pub(crate) struct Chosen {
-    /// The schedule, where it was set.
-    pub schedule: Option<u64>,
-    /// How many calls a thread may make, where it was set.
-    pub events: Option<u32>,
-}
 
 /// The schedule where none is set.
 const USUAL_SCHEDULE: u64 = 0;
@@ -33,44 +15,38 @@ const FEWEST_EVENTS: u64 = 1;
 /// The most calls that may be set.
 const MOST_EVENTS: u64 = MOST_CALLS as u64;
 
-impl Chosen {
-    /// With one setting more. `None` where its kind was set before.
-    pub(crate) fn with(self, setting: Setting) -> Option<Chosen>
-        ensures { result ≡ chosen_with self setting }
-    {
-        match setting {
-            Setting::Schedule(schedule) if self.schedule.is_none() => Some(Chosen {
-                schedule: Some(schedule),
-                ..self
-            }),
-            Setting::Events(limit) if self.events.is_none() => Some(Chosen {
-                events: Some(limit),
-                ..self
-            }),
-            _ => None,
-        }
-    }
+/// The rules that the values of `--schedule` and `--events` set, with the usual ones where an option
+/// isn't there. `None` where a value can't be set.
+pub(crate) fn rules_set(schedule: Option<&str>, events: Option<&str>) -> Option<Rules>
+    ensures { MatchOption result
+        ((rules : Rules) → ¬ AreSet (text_of schedule.entry) (text_of events.entry) rules)
+        (λ rules. AreSet (text_of schedule.entry) (text_of events.entry) rules) }
+{
+    Some(Rules {
+        schedule: schedule_set(schedule)?,
+        limit: limit_set(events)?,
+    })
+}
 
-    /// The rules that they make, with the usual values where none was set.
-    pub(crate) fn rules(self) -> Rules
-        ensures { result ≡ rules_from self }
-    {
-        Rules {
-            schedule: self.schedule.unwrap_or(USUAL_SCHEDULE),
-            limit: self.events.unwrap_or(USUAL_CALLS),
-        }
+/// The schedule that this value sets.
+fn schedule_set(number: Option<&str>) -> Option<u64>
+    ensures { MatchOption result ((n : ℕ) → ¬ IsScheduleSet (text_of number.entry) n)
+        (λ n. IsScheduleSet (text_of number.entry) n) }
+{
+    match number {
+        Some(number) => value_of(number),
+        None => Some(USUAL_SCHEDULE),
     }
 }
 
-/// The setting that an option's word and its value's word spell, if they spell one.
-pub(crate) fn setting_of(option: &str, number: &str) -> Option<Setting>
-    ensures { MatchOption result ((s : Setting) → ¬ SpellsSetting (option.now ∷ number.now ∷ []) s)
-        (λ s. SpellsSetting (option.now ∷ number.now ∷ []) s) }
+/// The number of calls that this value sets.
+fn limit_set(number: Option<&str>) -> Option<u32>
+    ensures { MatchOption result ((n : ℕ) → ¬ IsLimitSet (text_of number.entry) n)
+        (λ n. IsLimitSet (text_of number.entry) n) }
 {
-    match option {
-        "--schedule" => Some(Setting::Schedule(value_of(number)?)),
-        "--events" => Some(Setting::Events(limit_of(number)?)),
-        _ => None,
+    match number {
+        Some(number) => limit_of(number),
+        None => Some(USUAL_CALLS),
     }
 }
 

@@ -10,7 +10,7 @@ fn spelled(alloc: Global, text: &str) -> Result<Option<Command>, Fail> {
     for word in text.split(' ') {
         words.push(String::from_str(alloc, word)?)?;
     }
-    Ok(spell(words.as_slice()))
+    Ok(spell(alloc, words.as_slice())?)
 }
 
 #[test]
@@ -157,13 +157,15 @@ fn a_large_exercise_has_a_number(rt: HostRuntime) -> Result<(), Fail> {
 }
 
 /// Words that spell no run.
-const NO_RUN: [&str; 27] = [
+const NO_RUN: [&str; 29] = [
     "run run",
     "--schedule 1 run",
     "--schedule=1",
     "run --threads",
     "run --threads 1",
     "run --",
+    "run -- --schedule 1",
+    "run --schedule -- 1",
     "run -h",
     "run --help",
     "run ",
@@ -188,7 +190,7 @@ const NO_RUN: [&str; 27] = [
 ];
 
 /// Words that spell no plan.
-const NO_PLAN: [&str; 34] = [
+const NO_PLAN: [&str; 36] = [
     "make",
     "make ",
     "make rings 2 1",
@@ -208,6 +210,8 @@ const NO_PLAN: [&str; 34] = [
     "make ring 2 18446744073709551617",
     "make ring 2 1 naive",
     "make --ring 2 1",
+    "make -- ring 2 1",
+    "make ring 2 1 --",
     "make philosophers",
     "make philosophers naive",
     "make philosophers 2 1",
@@ -226,9 +230,10 @@ const NO_PLAN: [&str; 34] = [
 ];
 
 /// Words that spell nothing else.
-const NOTHING: [&str; 16] = [
+const NOTHING: [&str; 18] = [
     "",
     "check x",
+    "check --",
     "check --events 1",
     " run",
     "help",
@@ -242,6 +247,7 @@ const NOTHING: [&str; 16] = [
     "large 1 1",
     "large +5",
     "large -1",
+    "large -- 1",
     "large 18446744073709551616",
 ];
 
@@ -252,7 +258,7 @@ fn other_words_spell_nothing(rt: HostRuntime) -> Result<(), Fail> {
             assert_eq!(rt; spelled(rt.alloc(), words)?, None, "for {words:?}");
         }
     }
-    assert_eq!(rt; spell(&[]), None);
+    assert_eq!(rt; spell(rt.alloc(), &[])?, None);
     assert_eq!(rt; spelled(rt.alloc(), "check")?, Some(Command::Check));
     Ok(())
 }
@@ -263,6 +269,6 @@ fn a_blank_is_no_digit(rt: HostRuntime) -> Result<(), Fail> {
     for word in ["large", " 3"] {
         words.push(String::from_str(rt.alloc(), word)?)?;
     }
-    assert_eq!(rt; spell(words.as_slice()), None);
+    assert_eq!(rt; spell(rt.alloc(), words.as_slice())?, None);
     Ok(())
 }
