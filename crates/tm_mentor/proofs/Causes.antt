@@ -7,6 +7,7 @@ use Rattle.tm_base.specs.declared.events.Entry.{Entry}
 use Rattle.tm_base.specs.declared.rules.Rules.{Rules}
 use Rattle.tm_base.specs.Counters.{next_count}
 use Rattle.tm_outside.specs.Faults.{Rose}
+use Rattle.tm_outside.specs.Taking.{TakesAtMost}
 use Rattle.tm_lines.specs.declared.faults.FaultyLine.{FaultyLine}
 use Rattle.tm_lines.specs.TextFaults.{first_fault}
 use Rattle.tm_makers.specs.declared.plans.Plan.{Plan}
@@ -25,7 +26,7 @@ use Rattle.tm_mentor.specs.declared.answers.Answer.{Answer}
 use Rattle.tm_mentor.specs.declared.answers.Answer.TheVariants.{Refused, Ran, Wrote, Illegal, NoMemory}
 use Rattle.tm_mentor.specs.Answers.{end_status, outcome_of}
 use Rattle.tm_mentor.specs.CheckCommand.{CheckAnswers, IsNoTrace, JudgeAnswers, RefusesTrace}
-use Rattle.tm_mentor.specs.Commands.{Answers, CommandAnswers, UsageAnswers}
+use Rattle.tm_mentor.specs.Commands.{Answers, CannotSpell, CommandAnswers, UsageAnswers}
 use Rattle.tm_mentor.specs.MakeCommand.{MakeAnswers, text_of_plan}
 use Rattle.tm_mentor.specs.LargeCommand.{LargeAnswers}
 use Rattle.tm_mentor.specs.Outside.{Exchange, Input, ReadsNothing}
@@ -35,10 +36,38 @@ use Rattle.tm_mentor.proofs.JudgedTraces.{no_trace_told, none_of_trace, one_trac
 use Rattle.tm_mentor.proofs.Sent.{came, end_is_no_5, fault_sent_by, illegal_written, run_written, sent_fault_by, steady_sends, wrote_written}
 use Rattle.tm_mentor.proofs.Statuses.{illegal_is_no_0, illegal_is_no_9, illegal_is_no_refusal, refused_is_no_0, refused_is_no_8, refused_is_no_9, run_is_no_8, run_is_no_9, run_is_no_refusal, wrote_is_no_8, wrote_is_no_9, wrote_is_no_refusal}
 
+-- where nothing is read nothing is taken
+takes_nothing : (n : ℕ) (left : Option (List ℕ)) → TakesAtMost n left left
+takes_nothing n None = record { prefix = []; taken = tt; few = omega arith }
+takes_nothing n (Some bytes) = record { prefix = []; taken = refl; few = omega arith }
+
+unread_takes : (n : ℕ) (o : Exchange) → ReadsNothing o → TakesAtMost n o.unread.left o.read.left
+unread_takes n o same = subst (λ (i : Input). TakesAtMost n o.unread.left i.left) (sym same) (takes_nothing n o.unread.left)
+
+-- want of memory for the words is one that each command may answer
+cannot_spell : (c : Command) (o : Exchange) (a : Answer) → CannotSpell o a → CommandAnswers c o a
+cannot_spell (Run rules) o NoMemory w = inl (record {
+  unknown = record { taken = unread_takes _ o w.0; steady = ap (λ (i : Input). i.faults) w.0 };
+  unwritten = w.1;
+})
+cannot_spell Check o NoMemory w = inl (record { taken = unread_takes _ o w.0; steady = ap (λ (i : Input). i.faults) w.0 }, w.1)
+cannot_spell (Make plan) o NoMemory w = w
+cannot_spell (Large number) o NoMemory w = w
+cannot_spell c o a w = absurd w
+
+cannot_read : (o : Exchange) (a : Answer) → CannotSpell o a → ReadsNothing o
+cannot_read o NoMemory w = w.0
+cannot_read o a w = absurd w
+
+cannot_status : (o : Exchange) (a : Answer) → CannotSpell o a → (outcome_of a).status ≡ 9
+cannot_status o NoMemory w = refl
+cannot_status o a w = absurd w
+
 -- what the command that words spell answers
 answers_of : (words : List (String Global)) (o : Exchange) (a : Answer) (c : Command) → Answers words o a → Spells words c → CommandAnswers c o a
 answers_of words o a c (inl u) spelled = absurd (u.unspelled c spelled)
-answers_of words o a c (inr w) spelled =
+answers_of words o a c (inr (inr none)) spelled = cannot_spell c o a none
+answers_of words o a c (inr (inl w)) spelled =
     subst (λ d. CommandAnswers d o a) (one_command words w.command c w.spelled spelled) w.answers
 
 -- a source that wasn't read has no fault
@@ -56,7 +85,8 @@ no_usage (Large number) o failed w = w.1
 pub usage_by : (words : List (String Global)) (o : Exchange) (a : Answer) → Answers words o a → (outcome_of a).status ≡ 2 → SpellsNothing words
 usage_by words o (Refused refusal true) w same = absurd (omega (arith, same))
 usage_by words o (Refused Usage false) (inl u) same = u.unspelled
-usage_by words o (Refused Usage false) (inr w) same = absurd (no_usage w.command o false w.answers)
+usage_by words o (Refused Usage false) (inr (inl w)) same = absurd (no_usage w.command o false w.answers)
+usage_by words o (Refused Usage false) (inr (inr none)) same = absurd none
 usage_by words o (Refused (Text fault) false) w same = absurd (omega (arith, same))
 usage_by words o (Refused (NoTrace line) false) w same = absurd (omega (arith, same))
 usage_by words o (Refused ReadFault false) w same = absurd (omega (arith, same))
@@ -65,14 +95,15 @@ usage_by words o (Wrote failed) w same = absurd (wrote_is_no_refusal failed (ome
 usage_by words o (Illegal failed) w same = absurd (illegal_is_no_refusal failed (omega (arith, same)))
 usage_by words o NoMemory w same = absurd (omega (arith, same))
 
-usage_status : (o : Exchange) (a : Answer) → UsageAnswers o a → Contains (2 ∷ 5 ∷ []) (outcome_of a).status
+usage_status : (o : Exchange) (a : Answer) → UsageAnswers o a → Contains (2 ∷ 5 ∷ 9 ∷ []) (outcome_of a).status
 usage_status o (Refused Usage false) w = (0, lit< tt, refl)
 usage_status o (Refused Usage true) w = (1, lit< tt, refl)
 usage_status o a w = absurd w
 
-pub unspelled_by : (words : List (String Global)) (o : Exchange) (a : Answer) → Answers words o a → SpellsNothing words → Contains (2 ∷ 5 ∷ []) (outcome_of a).status
+pub unspelled_by : (words : List (String Global)) (o : Exchange) (a : Answer) → Answers words o a → SpellsNothing words → Contains (2 ∷ 5 ∷ 9 ∷ []) (outcome_of a).status
 unspelled_by words o a (inl u) none = usage_status o a u.answers
-unspelled_by words o a (inr w) none = absurd (none w.command w.spelled)
+unspelled_by words o a (inr (inl w)) none = absurd (none w.command w.spelled)
+unspelled_by words o a (inr (inr short)) none = (2, lit< tt, sym (cannot_status o a short))
 
 -- a text with a fault is that of no exercise, and one of an exercise has none
 faulty_none : (left : Option (List ℕ)) (fault : FaultyLine) → IfSome left (λ bytes. first_fault bytes ≡ Some fault) → IfSome left IsNoExercise
@@ -119,7 +150,8 @@ usage_is_2 o refusal failed w = absurd w
 pub text_by : (words : List (String Global)) (o : Exchange) (a : Answer) → Answers words o a → (outcome_of a).status ≡ 3 → IsOfNone words o
 text_by words o (Refused refusal true) w same = absurd (omega (arith, same))
 text_by words o (Refused refusal false) (inl u) same = absurd (let two = usage_is_2 o refusal false u.answers in omega (arith, same, two))
-text_by words o (Refused refusal false) (inr w) same = text_of words o refusal false w.command w.spelled w.answers same
+text_by words o (Refused refusal false) (inr (inl w)) same = text_of words o refusal false w.command w.spelled w.answers same
+text_by words o (Refused refusal false) (inr (inr none)) same = absurd none
 text_by words o (Ran f) w same = absurd (run_is_no_refusal f.write_fault f.end (omega (arith, same)) (omega (arith, same)))
 text_by words o (Wrote failed) w same = absurd (wrote_is_no_refusal failed (omega (arith, same)) (omega (arith, same)))
 text_by words o (Illegal failed) w same = absurd (illegal_is_no_refusal failed (omega (arith, same)))
@@ -177,7 +209,8 @@ read_fault_of (Large number) o failed w = absurd w.1
 pub read_fault_by : (words : List (String Global)) (o : Exchange) (a : Answer) → Answers words o a → (outcome_of a).status ≡ 4 → FaultRead o
 read_fault_by words o (Refused refusal true) w same = absurd (omega (arith, same))
 read_fault_by words o (Refused ReadFault false) (inl u) same = absurd u.answers
-read_fault_by words o (Refused ReadFault false) (inr w) same = read_fault_of w.command o false w.answers
+read_fault_by words o (Refused ReadFault false) (inr (inl w)) same = read_fault_of w.command o false w.answers
+read_fault_by words o (Refused ReadFault false) (inr (inr none)) same = absurd none
 read_fault_by words o (Refused Usage false) w same = absurd (omega (arith, same))
 read_fault_by words o (Refused (Text fault) false) w same = absurd (omega (arith, same))
 read_fault_by words o (Refused (NoTrace line) false) w same = absurd (omega (arith, same))
@@ -234,7 +267,8 @@ read_shows_of (Large number) o a w rises = absurd (unread_steady o w.0 rises)
 
 pub read_shows_by : (words : List (String Global)) (o : Exchange) (a : Answer) → Answers words o a → o.unread.faults < o.read.faults → Contains (4 ∷ 5 ∷ []) (outcome_of a).status
 read_shows_by words o a (inl u) rises = absurd (unread_steady o (usage_unread o a u.answers) rises)
-read_shows_by words o a (inr w) rises = read_shows_of w.command o a w.answers rises
+read_shows_by words o a (inr (inl w)) rises = read_shows_of w.command o a w.answers rises
+read_shows_by words o a (inr (inr none)) rises = absurd (unread_steady o (cannot_read o a none) rises)
 
 -- the status 5 is that of a fault of the sink
 abbrev FaultSent : Exchange → Type 0
@@ -287,7 +321,8 @@ usage_write_fault o a w same = absurd w
 
 pub write_fault_by : (words : List (String Global)) (o : Exchange) (a : Answer) → Answers words o a → (outcome_of a).status ≡ 5 → FaultSent o
 write_fault_by words o a (inl u) same = usage_write_fault o a u.answers same
-write_fault_by words o a (inr w) same = write_fault_of w.command o a w.answers same
+write_fault_by words o a (inr (inl w)) same = write_fault_of w.command o a w.answers same
+write_fault_by words o a (inr (inr none)) same = absurd (let nine = cannot_status o a none in omega (arith, same, nine))
 
 abbrev ShowsWrite : Answer → Type 0
 ShowsWrite a = Contains (5 ∷ 9 ∷ []) (outcome_of a).status
@@ -327,7 +362,8 @@ usage_write_shows o a w rises = absurd w
 
 pub write_shows_by : (words : List (String Global)) (o : Exchange) (a : Answer) → Answers words o a → o.unsent.faults < o.sent.faults → Contains (5 ∷ 9 ∷ []) (outcome_of a).status
 write_shows_by words o a (inl u) rises = usage_write_shows o a u.answers rises
-write_shows_by words o a (inr w) rises = write_shows_of w.command o a w.answers rises
+write_shows_by words o a (inr (inl w)) rises = write_shows_of w.command o a w.answers rises
+write_shows_by words o a (inr (inr none)) rises = (1, lit< tt, sym (cannot_status o a none))
 
 -- a status from 2 to 4 is that of a refusal, whose line was written
 pub line_by : (words : List (String Global)) (o : Exchange) (a : Answer) → Answers words o a → 2 ≤ (outcome_of a).status → (outcome_of a).status ≤ 4
@@ -370,7 +406,8 @@ pub made_by : (words : List (String Global)) (o : Exchange) (a : Answer) → Ans
 made_by words o (Refused refusal failed) w = λ same. absurd (refused_is_no_0 refusal failed same)
 made_by words o (Ran f) w = tt
 made_by words o (Wrote failed) (inl u) = λ same. absurd u.answers
-made_by words o (Wrote failed) (inr w) = λ same. made_of words o failed w.command w.spelled w.answers
+made_by words o (Wrote failed) (inr (inl w)) = λ same. made_of words o failed w.command w.spelled w.answers
+made_by words o (Wrote failed) (inr (inr none)) = λ same. absurd none
 made_by words o (Illegal failed) w = λ same. absurd (illegal_is_no_0 failed same)
 made_by words o NoMemory w = λ same. absurd (omega (arith, same))
 

@@ -1,5 +1,5 @@
 -- What the program answers, by the command that its words spell.
-use Rattle.std.specs.Prelude.{List, ◌⊎◌, String}
+use Rattle.std.specs.Prelude.{◌≡◌, List, ◌⊎◌, String}
 use Rattle.std.specs.declared.alloc.Global.{Global}
 use Rattle.tm_words.specs.declared.commands.Command.{Command}
 use Rattle.tm_words.specs.declared.commands.Command.TheVariants as command
@@ -38,6 +38,11 @@ pub record IsUnspelled (words : List (String Global)) (o : Exchange) (a : Answer
   pub unspelled : SpellsNothing words
   pub answers : UsageAnswers o a
 
+-- Memory ran out before it was known what the words spell: nothing was read or written.
+abbrev pub CannotSpell : Exchange → Answer → Type 0
+CannotSpell o answer.NoMemory = ReadsNothing o × (o.sent ≡ o.unsent)
+CannotSpell o a = ⊥
+
 -- What these words are answered.
 abbrev pub Answers : List (String Global) → Exchange → Answer → Type 0
-Answers words o a = IsUnspelled words o a ⊎ IsAnswered words o a
+Answers words o a = IsUnspelled words o a ⊎ IsAnswered words o a ⊎ CannotSpell o a

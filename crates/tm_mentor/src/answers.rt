@@ -14,6 +14,7 @@ use crate::make_command::make;
 use crate::refusals::{Refusal, refuse};
 use crate::run_command::run;
 use std::alloc::Global;
+use tm_base::NoMemory;
 use tm_outside::{Sink, Source};
 use tm_session::Finished;
 use tm_watch::Watcher;
@@ -56,11 +57,12 @@ pub(crate) fn carry_out<S: Source, K: Sink>(
     ensures source_never_falls { S.fault_count source.old ≤ S.fault_count source.new }
     ensures sink_never_falls { K.fault_count sink.old ≤ K.fault_count sink.new }
 {
-    match spell(words) {
-        Some(Command::Run(rules)) => run(alloc, rules, source, sink, watchers),
-        Some(Command::Check) => check(alloc, source, sink),
-        Some(Command::Make(plan)) => make(alloc, plan, sink),
-        Some(Command::Large(number)) => large_run(alloc, number, sink, watchers),
-        None => refuse(alloc, Refusal::Usage, sink),
+    match spell(alloc, words) {
+        Ok(Some(Command::Run(rules))) => run(alloc, rules, source, sink, watchers),
+        Ok(Some(Command::Check)) => check(alloc, source, sink),
+        Ok(Some(Command::Make(plan))) => make(alloc, plan, sink),
+        Ok(Some(Command::Large(number))) => large_run(alloc, number, sink, watchers),
+        Ok(None) => refuse(alloc, Refusal::Usage, sink),
+        Err(NoMemory) => Answer::NoMemory,
     }
 }

@@ -74,7 +74,7 @@ pub fn mentor_alone<S: Source, K: Sink>(
 
     // Words that spell no command, and words that spell neither `run` nor `check`: of these nothing is read.
     ensures usage { result.status ≡ 2 → SpellsNothing words.now }
-    ensures unspelled { SpellsNothing words.now → Contains (2 ∷ 5 ∷ []) result.status }
+    ensures unspelled { SpellsNothing words.now → Contains (2 ∷ 5 ∷ 9 ∷ []) result.status }
     ensures unread { ((rules : Rules) → ¬ Spells words.now (Run rules)) → ¬ Spells words.now Check → source.new ≡ source.old }
 
     // In every answer no more is read than tells that a text is too long.

@@ -41,7 +41,7 @@ returns-clause-usage g c =
 pub returns-clause-unspelled : goal.returns-clause-unspelled
 returns-clause-unspelled g c =
     λ none.
-    let P : Outcome → Type 0 = λ o. Contains (2 ∷ 5 ∷ []) o.status in
+    let P : Outcome → Type 0 = λ o. Contains (2 ∷ 5 ∷ 9 ∷ []) o.status in
     subst P (sym c.of.ensures) (unspelled_by c.args.words.now _ c.carry_out-answer.result c.carry_out-answer.ensures.answers none)
 
 pub returns-clause-text : goal.returns-clause-text
