@@ -1,5 +1,9 @@
 pub mod Judged
 pub mod Statuses
-pub mod JudgedTraces
 pub mod Sent
+pub mod Owed
+pub mod RunOwed
+pub mod CheckOwed
+pub mod MakeOwed
+pub mod LargeOwed
 pub mod Causes

@@ -1,5 +1,5 @@
 -- What it tells that bytes were sent.
-use Rattle.std.proofs.Common.{ℕ, ◌<◌, ◌≤◌, ◌+◌, Bool, true, false, List, [], ◌∷◌, ◌++◌, Option, take, drop, length, length-drop, lit<, refl, ap, sym, subst, ◌∙◌, ◌≡◌, arith}
+use Rattle.std.proofs.Common.{ℕ, ◌≤◌, ◌+◌, Bool, true, false, List, [], ◌∷◌, ◌++◌, Option, take, drop, length, length-drop, lit<, refl, ap, sym, subst, ◌∙◌, ◌≡◌, arith}
 use Rattle.std.proofs.lemmas.List.{take-append-drop}
 use Rattle.std.specs.List.{Contains}
 use Rattle.tm_base.specs.Counters.{next_count}
@@ -20,16 +20,7 @@ pub steady_sends : (old new : Output) (bytes : List ℕ) (failed : Bool) → Sen
 steady_sends old new bytes true w steady = absurd (steady (came old.faults new.faults w.0))
 steady_sends old new bytes false w steady = refl
 
--- a fault of the sink shows as 5
-pub sent_fault_by : (old new : Output) (bytes : List ℕ) (failed : Bool) (status : ℕ) → Sends failed old new bytes → old.faults < new.faults → Contains (5 ∷ 9 ∷ []) (unless_failed failed status)
-sent_fault_by old new bytes true status w rises = (0, lit< tt, refl)
-sent_fault_by old new bytes false status w rises = absurd (omega (arith, w.0, rises))
-
--- 5 shows a fault of the sink
-pub fault_sent_by : (old new : Output) (bytes : List ℕ) (failed : Bool) (status : ℕ) → Sends failed old new bytes → (status ≡ 5 → ⊥) → unless_failed failed status ≡ 5 → new.faults ≡ next_count old.faults
-fault_sent_by old new bytes true status w other same = w.0
-fault_sent_by old new bytes false status w other same = absurd (other same)
-
+-- a run has no status of a fault
 pub end_is_no_5 : (end : End) → end_status end ≡ 5 → ⊥
 end_is_no_5 Done same = omega (arith, same)
 end_is_no_5 Stuck same = omega (arith, same)

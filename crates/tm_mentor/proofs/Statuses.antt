@@ -11,7 +11,7 @@ use Rattle.tm_mentor.specs.declared.outcomes.Outcome.{Outcome}
 use Rattle.tm_mentor.specs.declared.answers.Answer.{Answer}
 use Rattle.tm_mentor.specs.declared.answers.Answer.TheVariants.{Refused, Ran, Wrote, Illegal, NoMemory}
 use Rattle.tm_mentor.specs.Refusals.{status_of}
-use Rattle.tm_mentor.specs.Answers.{HaveWatched, IsWritten, end_status, outcome_of, run_status, statuses, unless_failed}
+use Rattle.tm_mentor.specs.Answers.{HaveWatched, IsWritten, StatusesNameAnswers, end_status, outcome_of, run_status, statuses, unless_failed}
 
 -- every status is one of these
 refused_status_by : (refusal : Refusal) (failed : Bool) → Contains statuses (unless_failed failed (status_of refusal))
@@ -102,7 +102,7 @@ run_is_no_refusal true Done least most = omega (arith, least, most)
 run_is_no_refusal true Stuck least most = omega (arith, least, most)
 run_is_no_refusal true Budget least most = omega (arith, least, most)
 
-pub run_is_no_9 : (failed : Bool) (end : End) → unless_failed failed (end_status end) ≡ 9 → ⊥
+run_is_no_9 : (failed : Bool) (end : End) → unless_failed failed (end_status end) ≡ 9 → ⊥
 run_is_no_9 false Done same = omega (arith, same)
 run_is_no_9 false Stuck same = omega (arith, same)
 run_is_no_9 false Budget same = omega (arith, same)
@@ -115,11 +115,11 @@ pub wrote_is_no_refusal : (failed : Bool) → 2 ≤ unless_failed failed 0 → u
 wrote_is_no_refusal false least most = omega (arith, least)
 wrote_is_no_refusal true least most = omega (arith, most)
 
-pub wrote_is_no_8 : (failed : Bool) → unless_failed failed 0 ≡ 8 → ⊥
+wrote_is_no_8 : (failed : Bool) → unless_failed failed 0 ≡ 8 → ⊥
 wrote_is_no_8 false same = omega (arith, same)
 wrote_is_no_8 true same = omega (arith, same)
 
-pub wrote_is_no_9 : (failed : Bool) → unless_failed failed 0 ≡ 9 → ⊥
+wrote_is_no_9 : (failed : Bool) → unless_failed failed 0 ≡ 9 → ⊥
 wrote_is_no_9 false same = omega (arith, same)
 wrote_is_no_9 true same = omega (arith, same)
 
@@ -131,21 +131,21 @@ refused_is_no_0 (Text fault) false same = omega (arith, same)
 refused_is_no_0 (NoTrace line) false same = omega (arith, same)
 refused_is_no_0 ReadFault false same = omega (arith, same)
 
-pub refused_is_no_9 : (refusal : Refusal) (failed : Bool) → unless_failed failed (status_of refusal) ≡ 9 → ⊥
+refused_is_no_9 : (refusal : Refusal) (failed : Bool) → unless_failed failed (status_of refusal) ≡ 9 → ⊥
 refused_is_no_9 refusal true same = omega (arith, same)
 refused_is_no_9 Usage false same = omega (arith, same)
 refused_is_no_9 (Text fault) false same = omega (arith, same)
 refused_is_no_9 (NoTrace line) false same = omega (arith, same)
 refused_is_no_9 ReadFault false same = omega (arith, same)
 
-pub refused_is_no_8 : (refusal : Refusal) (failed : Bool) → unless_failed failed (status_of refusal) ≡ 8 → ⊥
+refused_is_no_8 : (refusal : Refusal) (failed : Bool) → unless_failed failed (status_of refusal) ≡ 8 → ⊥
 refused_is_no_8 refusal true same = omega (arith, same)
 refused_is_no_8 Usage false same = omega (arith, same)
 refused_is_no_8 (Text fault) false same = omega (arith, same)
 refused_is_no_8 (NoTrace line) false same = omega (arith, same)
 refused_is_no_8 ReadFault false same = omega (arith, same)
 
-pub run_is_no_8 : (failed : Bool) (end : End) → unless_failed failed (end_status end) ≡ 8 → ⊥
+run_is_no_8 : (failed : Bool) (end : End) → unless_failed failed (end_status end) ≡ 8 → ⊥
 run_is_no_8 true end same = omega (arith, same)
 run_is_no_8 false Done same = omega (arith, same)
 run_is_no_8 false Stuck same = omega (arith, same)
@@ -156,13 +156,40 @@ pub illegal_is_no_refusal : (failed : Bool) → unless_failed failed 8 ≤ 4 →
 illegal_is_no_refusal false most = omega (arith, most)
 illegal_is_no_refusal true most = omega (arith, most)
 
-pub illegal_is_no_9 : (failed : Bool) → unless_failed failed 8 ≡ 9 → ⊥
+illegal_is_no_9 : (failed : Bool) → unless_failed failed 8 ≡ 9 → ⊥
 illegal_is_no_9 false same = omega (arith, same)
 illegal_is_no_9 true same = omega (arith, same)
 
 pub illegal_is_no_0 : (failed : Bool) → unless_failed failed 8 ≡ 0 → ⊥
 illegal_is_no_0 false same = omega (arith, same)
 illegal_is_no_0 true same = omega (arith, same)
+
+-- so these statuses name the answer
+refused_by : (a : Answer) → 2 ≤ (outcome_of a).status → (outcome_of a).status ≤ 4 → (refusal : Refusal) × ((outcome_of a).status ≡ status_of refusal) × (a ≡ Refused refusal false)
+refused_by (Refused refusal false) least most = (refusal, refl, refl)
+refused_by (Refused refusal true) least most = absurd (omega (arith, most))
+refused_by (Ran f) least most = absurd (run_is_no_refusal f.write_fault f.end least most)
+refused_by (Wrote failed) least most = absurd (wrote_is_no_refusal failed least most)
+refused_by (Illegal failed) least most = absurd (illegal_is_no_refusal failed most)
+refused_by NoMemory least most = absurd (omega (arith, most))
+
+illegal_by : (a : Answer) → (outcome_of a).status ≡ 8 → a ≡ Illegal false
+illegal_by (Refused refusal failed) same = absurd (refused_is_no_8 refusal failed same)
+illegal_by (Ran f) same = absurd (run_is_no_8 f.write_fault f.end same)
+illegal_by (Wrote failed) same = absurd (wrote_is_no_8 failed same)
+illegal_by (Illegal false) same = refl
+illegal_by (Illegal true) same = absurd (omega (arith, same))
+illegal_by NoMemory same = absurd (omega (arith, same))
+
+no_memory_by : (a : Answer) → (outcome_of a).status ≡ 9 → a ≡ NoMemory
+no_memory_by (Refused refusal failed) same = absurd (refused_is_no_9 refusal failed same)
+no_memory_by (Ran f) same = absurd (run_is_no_9 f.write_fault f.end same)
+no_memory_by (Wrote failed) same = absurd (wrote_is_no_9 failed same)
+no_memory_by (Illegal failed) same = absurd (illegal_is_no_9 failed same)
+no_memory_by NoMemory same = refl
+
+pub statuses_name : StatusesNameAnswers
+statuses_name = record { refused = refused_by; illegal = illegal_by; no_memory = no_memory_by }
 
 -- what watchers were told, by the answer
 pub watched_by : (ws us : List Watch) (a : Answer) (o : Outcome) → o ≡ outcome_of a → HaveWatched ws a us → IfSome o.finished (λ f. us ≡ told_all ws f.shown)

@@ -1,5 +1,5 @@
 -- What commands answer, whichever they are.
-use Rattle.std.specs.Prelude.{◌≡◌, ℕ, Bool, false, if◌then◌else◌, List, [], ◌∷◌, Some, None}
+use Rattle.std.specs.Prelude.{◌≡◌, ℕ, ◌≤◌, Bool, false, if◌then◌else◌, List, [], ◌∷◌, Some, None}
 use Rattle.tm_base.specs.declared.ends.End.{End}
 use Rattle.tm_base.specs.declared.ends.End.TheVariants.{Done, Stuck, Budget}
 use Rattle.tm_base.specs.declared.rules.Rules.{Rules}
@@ -92,3 +92,11 @@ outcome_of (Ran f) = record { status = run_status f; finished = Some f }
 outcome_of (Wrote failed) = record { status = unless_failed failed 0; finished = None }
 outcome_of (Illegal failed) = record { status = unless_failed failed 8; finished = None }
 outcome_of NoMemory = record { status = 9; finished = None }
+
+-- A status from 2 to 4 is that of a refusal whose line was written, 8 that of a trace that isn't legal, where the lines
+-- that say so were written, and 9 that of memory that ran out.
+pub record StatusesNameAnswers : Type 0 where
+  pub refused : (a : Answer) → 2 ≤ (outcome_of a).status → (outcome_of a).status ≤ 4
+      → (refusal : Refusal) × ((outcome_of a).status ≡ status_of refusal) × (a ≡ Refused refusal false)
+  pub illegal : (a : Answer) → (outcome_of a).status ≡ 8 → a ≡ Illegal false
+  pub no_memory : (a : Answer) → (outcome_of a).status ≡ 9 → a ≡ NoMemory

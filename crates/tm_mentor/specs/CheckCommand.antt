@@ -1,11 +1,7 @@
 -- The command that judges a trace: what it reads, and what it answers.
-use Rattle.std.specs.Prelude.{◌≡◌, ◌+◌, ◌⊎◌, ℕ, suc, Bool, List, Option}
-use Rattle.std.specs.Option.{IfSome}
-use Rattle.tm_base.specs.Counters.{next_count}
+use Rattle.std.specs.Prelude.{◌≡◌, ◌⊎◌, ℕ, suc, Bool, List}
 use Rattle.tm_base.specs.declared.events.Entry.{Entry}
 use Rattle.tm_outside.specs.Appending.{AppendsProperPrefix}
-use Rattle.tm_outside.specs.Taking.{IsAtEnd, TakesAtMost}
-use Rattle.tm_lines.specs.declared.faults.FaultyLine.{FaultyLine}
 use Rattle.tm_text.specs.Exercises.{ExerciseView}
 use Rattle.tm_order.specs.LegalEvents.{AreLegal}
 use Rattle.tm_trace.specs.declared.faults.JudgeFault.{JudgeFault}
@@ -19,64 +15,32 @@ use Rattle.tm_refusal_lines.specs.RefusalTexts.{refusal_text}
 use Rattle.tm_legal_rows.specs.LegalTexts.{IsLegalText}
 use Rattle.tm_mentor.specs.declared.answers.Answer.{Answer}
 use Rattle.tm_mentor.specs.declared.answers.Answer.TheVariants as answer
-use Rattle.tm_mentor.specs.declared.readings.ReadError.{ReadError}
-use Rattle.tm_mentor.specs.declared.readings.ReadError.TheVariants as unread
 use Rattle.tm_mentor.specs.declared.refusals.Refusal.{Refusal}
-use Rattle.tm_mentor.specs.declared.refusals.Refusal.TheVariants.{Usage, Text, NoTrace, ReadFault}
+use Rattle.tm_mentor.specs.declared.refusals.Refusal.TheVariants.{NoTrace, Text}
 use Rattle.tm_mentor.specs.Answers.{Sends}
 use Rattle.tm_mentor.specs.Outside.{Exchange, Input, Output}
-use Rattle.tm_mentor.specs.Refusals.{line_of}
+use Rattle.tm_mentor.specs.Sources.{HasFaultyText, HasText, RefusesText}
 
 -- The bytes are the text of no trace.
 abbrev pub IsNoTrace : List ℕ → Type 0
 IsNoTrace bytes = (x : ExerciseView) (es : List Entry) → ¬ IsTraceText bytes x es
 
--- At most one byte more than the text of a trace may have was taken from the source, where it tells its bytes.
-abbrev pub ReadsTraceAtMost : Option (List ℕ) → Option (List ℕ) → Type 0
-ReadsTraceAtMost old new = TakesAtMost (MOST_TRACE_BYTES + 1) old new
+-- A text of the trace of this exercise and these events was read.
+abbrev pub HasTrace : Input → Input → ExerciseView → List Entry → Type 0
+HasTrace old new x es = HasText (λ bytes. IsTraceText bytes x es) old new
 
--- The source was read to its end with no fault, and all the bytes that it had left, where it tells them, are a text of
--- the trace of this exercise and these events.
-pub record HasTrace (old new : Input) (x : ExerciseView) (es : List Entry) : Type 0 where
-  pub end : IsAtEnd new.left
-  pub steady : new.faults ≡ old.faults
-  pub told : IfSome old.left (λ bytes. IsTraceText bytes x es)
-
--- The source has no fault, and this is the first fault of all the bytes that it had left, where it tells them.
-pub record HasFaultyTrace (old new : Input) (f : FaultyLine) : Type 0 where
-  pub taken : ReadsTraceAtMost old.left new.left
-  pub steady : new.faults ≡ old.faults
-  pub first : IfSome old.left (λ bytes. IsRefusal bytes (fault.Line f.line f.kind))
-
--- The source has no fault, and none of the lines of the bytes that it had left, where it tells them, is `trace`. The
--- line is the one behind the last.
+-- A text was read none of whose lines is `trace`. The line is the one behind the last.
 pub record LacksTrace (old new : Input) (line : ℕ) : Type 0 where
-  pub taken : ReadsTraceAtMost old.left new.left
-  pub steady : new.faults ≡ old.faults
   pub lines : ℕ
   pub behind : line ≡ suc lines
-  pub first : IfSome old.left (λ bytes. IsRefusal bytes (fault.NoTraceLine lines))
+  pub text : HasFaultyText MOST_TRACE_BYTES (λ bytes. IsRefusal bytes (fault.NoTraceLine lines)) old new
 
--- One read of the source failed, and no other did.
-pub record HasTraceReadFault (old new : Input) : Type 0 where
-  pub taken : ReadsTraceAtMost old.left new.left
-  pub counted : new.faults ≡ next_count old.faults
-
--- Memory ran out while the source was read, which has no fault.
-pub record IsTraceUnknown (old new : Input) : Type 0 where
-  pub taken : ReadsTraceAtMost old.left new.left
-  pub steady : new.faults ≡ old.faults
-
--- Why there is no trace to judge.
-abbrev pub IsTraceCause : Refusal → Input → Input → Type 0
-IsTraceCause Usage old new = ⊥
-IsTraceCause (Text f) old new = HasFaultyTrace old new f
-IsTraceCause (NoTrace line) old new = LacksTrace old new line
-IsTraceCause ReadFault old new = HasTraceReadFault old new
-
-abbrev pub IsTraceReadError : ReadError → Input → Input → Type 0
-IsTraceReadError (unread.Refused refusal) old new = IsTraceCause refusal old new
-IsTraceReadError unread.NoMemory old new = IsTraceUnknown old new
+-- A text of no trace was read, which has this first fault.
+abbrev pub HasNoTrace : Refusal → Input → Input → Type 0
+HasNoTrace (Text f) old new =
+    HasFaultyText MOST_TRACE_BYTES (λ bytes. IsRefusal bytes (fault.Line f.line f.kind)) old new
+HasNoTrace (NoTrace line) old new = LacksTrace old new line
+HasNoTrace refusal old new = ⊥
 
 -- The events by rising stamp and then thread number are a legal run, and its rows and last line were sent.
 pub record SendsLegal (x : ExerciseView) (es : List Entry) (old new : Output) (failed : Bool) : Type 0 where
@@ -118,16 +82,9 @@ JudgeAnswers x es old new a = ⊥
 pub record Judges (o : Exchange) (a : Answer) : Type 0 where
   pub exercise : ExerciseView
   pub entries : List Entry
-  pub found : HasTrace o.unread o.read exercise entries
-  pub answers : JudgeAnswers exercise entries o.unsent o.sent a
-
--- No trace was read, for the cause whose line was sent; or memory ran out before that.
-abbrev pub RefusesTrace : Exchange → Answer → Type 0
-RefusesTrace o (answer.Refused refusal failed) =
-    IsTraceCause refusal o.unread o.read × Sends failed o.unsent o.sent (line_of refusal)
-RefusesTrace o answer.NoMemory = IsTraceUnknown o.unread o.read × (o.sent ≡ o.unsent)
-RefusesTrace o a = ⊥
+  pub found : HasTrace o.source_before o.source_after exercise entries
+  pub answers : JudgeAnswers exercise entries o.sink_before o.sink_after a
 
 -- What `check` answers.
 abbrev pub CheckAnswers : Exchange → Answer → Type 0
-CheckAnswers o a = RefusesTrace o a ⊎ Judges o a
+CheckAnswers o a = RefusesText MOST_TRACE_BYTES HasNoTrace o a ⊎ Judges o a

@@ -19,12 +19,12 @@ use Rattle.tm_mentor.specs.RunCommand.{RunAnswers}
 abbrev pub CommandAnswers : Command → Exchange → Answer → Type 0
 CommandAnswers (command.Run rules) o a = RunAnswers rules o a
 CommandAnswers command.Check o a = CheckAnswers o a
-CommandAnswers (command.Make plan) o a = ReadsNothing o × MakeAnswers plan o.unsent o.sent a
-CommandAnswers (command.Large number) o a = ReadsNothing o × LargeAnswers number o.unsent o.sent a
+CommandAnswers (command.Make plan) o a = ReadsNothing o × MakeAnswers plan o.sink_before o.sink_after a
+CommandAnswers (command.Large number) o a = ReadsNothing o × LargeAnswers number o.sink_before o.sink_after a
 
 -- What is answered where there is no command: nothing is read, and a line says so.
 abbrev pub UsageAnswers : Exchange → Answer → Type 0
-UsageAnswers o (answer.Refused Usage failed) = ReadsNothing o × Sends failed o.unsent o.sent (line_of Usage)
+UsageAnswers o (answer.Refused Usage failed) = ReadsNothing o × Sends failed o.sink_before o.sink_after (line_of Usage)
 UsageAnswers o a = ⊥
 
 -- The words spell this command, which answers so.
@@ -38,9 +38,9 @@ pub record IsUnspelled (words : List (String Global)) (o : Exchange) (a : Answer
   pub unspelled : SpellsNothing words
   pub answers : UsageAnswers o a
 
--- Memory ran out before it was known what the words spell: nothing was read or written.
+-- Memory ran out before it was known what the words spell, or before there were words: nothing was read or written.
 abbrev pub CannotSpell : Exchange → Answer → Type 0
-CannotSpell o answer.NoMemory = ReadsNothing o × (o.sent ≡ o.unsent)
+CannotSpell o answer.NoMemory = ReadsNothing o × (o.sink_after ≡ o.sink_before)
 CannotSpell o a = ⊥
 
 -- What these words are answered.

@@ -1,6 +1,7 @@
 pub mod Outside
 pub mod Refusals
 pub mod Answers
+pub mod Sources
 pub mod RunCommand
 pub mod CheckCommand
 pub mod MakeCommand

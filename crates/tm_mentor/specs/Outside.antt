@@ -21,11 +21,11 @@ output_of written faults sink = record { written = written sink; faults = faults
 
 -- Both, before and after.
 pub record Exchange : Type 0 where
-  pub unread : Input
-  pub read : Input
-  pub unsent : Output
-  pub sent : Output
+  pub source_before : Input
+  pub source_after : Input
+  pub sink_before : Output
+  pub sink_after : Output
 
 -- Nothing was read.
 abbrev pub ReadsNothing : Exchange → Type 0
-ReadsNothing o = o.read ≡ o.unread
+ReadsNothing o = o.source_after ≡ o.source_before

@@ -1,5 +1,5 @@
 -- What a process is given, and the status that it ends with.
-use Rattle.std.specs.Prelude.{◌≡◌, ℕ, List, [], drop, Result, Ok, Err, ◌⊎◌, String}
+use Rattle.std.specs.Prelude.{◌≡◌, ℕ, List, [], drop, Result, Ok, Err, String}
 use Rattle.std.specs.Vec.Iter.{into_iter_items}
 use Rattle.std.specs.declared.alloc.Global.{Global}
 use Rattle.std.specs.declared.io.Error.{Error}
@@ -9,7 +9,7 @@ use Rattle.tm_mentor.specs.declared.answers.Answer.{Answer}
 use Rattle.tm_mentor.specs.declared.outcomes.Outcome.{Outcome}
 use Rattle.tm_mentor.specs.Answers.{outcome_of}
 use Rattle.tm_mentor.specs.Commands.{Answers}
-use Rattle.tm_mentor.specs.Outside.{Exchange, ReadsNothing}
+use Rattle.tm_mentor.specs.Outside.{Exchange}
 
 -- The words of a command line: the arguments after the first, which is the program's name, in their
 -- order. Where the arguments could not be had there are none.
@@ -23,19 +23,8 @@ abbrev pub process_status : Result Outcome NoMemory → ℕ
 process_status (Ok outcome) = outcome.status
 process_status (Err error) = 9
 
--- The command of these words was answered, with this status.
-pub record EndsCommand (words : List (String Global)) (o : Exchange) (status : ℕ) : Type 0 where
+-- A process with these words ended with this status: it is that of what the words were answered.
+pub record EndsProcess (words : List (String Global)) (o : Exchange) (status : ℕ) : Type 0 where
   pub answer : Answer
   pub answers : Answers words o answer
   pub same : status ≡ (outcome_of answer).status
-
--- Memory ran out before there were words: nothing was read or written, and the status is 9.
-pub record IsWordless (o : Exchange) (status : ℕ) : Type 0 where
-  pub unread : ReadsNothing o
-  pub unwritten : o.sent ≡ o.unsent
-  pub same : status ≡ 9
-
--- A process with these words ended with this status: the command was answered, or memory ran out before
--- there were words.
-abbrev pub EndsProcess : List (String Global) → Exchange → ℕ → Type 0
-EndsProcess words o status = EndsCommand words o status ⊎ IsWordless o status

@@ -1,12 +1,13 @@
 ghost use Rattle.std.specs.Prelude.{◌≡◌, ◌≤◌, map};
 ghost use Rattle.tm_base.specs.declared.rules.Rules.{Rules};
+ghost use Rattle.tm_lines.specs.declared.limits.TheConstants.{MOST_BYTES};
+ghost use Rattle.tm_trace_texts.specs.declared.limits.TheConstants.{MOST_TRACE_BYTES};
 ghost use Rattle.tm_words.specs.declared.commands.Command.TheVariants.{Check, Run};
 ghost use Rattle.tm_words.specs.Commands.{Spells};
 ghost use Rattle.tm_mentor.specs.Answers.{HaveWatched};
-ghost use Rattle.tm_mentor.specs.CheckCommand.{ReadsTraceAtMost};
 ghost use Rattle.tm_mentor.specs.Commands.{Answers};
 ghost use Rattle.tm_mentor.specs.Outside.{input_of, output_of};
-ghost use Rattle.tm_mentor.specs.RunCommand.{ReadsAtMost};
+ghost use Rattle.tm_mentor.specs.Sources.{ReadsAtMost};
 
 use crate::check_command::check;
 use crate::large_command::large_run;
@@ -45,14 +46,14 @@ pub(crate) fn carry_out<S: Source, K: Sink>(
     watchers: &mut Vec<Box<dyn Watcher>>,
 ) -> Answer
     ensures answers { Answers words.now (record {
-      unread = input_of S.left S.fault_count source.old;
-      read = input_of S.left S.fault_count source.new;
-      unsent = output_of K.written K.fault_count sink.old;
-      sent = output_of K.written K.fault_count sink.new;
+      source_before = input_of S.left S.fault_count source.old;
+      source_after = input_of S.left S.fault_count source.new;
+      sink_before = output_of K.written K.fault_count sink.old;
+      sink_after = output_of K.written K.fault_count sink.new;
     }) result }
     ensures watched { HaveWatched (map (λ b. watch b) watchers.old.items) result (map (λ b. watch b) watchers.new.items) }
-    ensures taken { ReadsTraceAtMost (S.left source.old) (S.left source.new) }
-    ensures taken_by_run { ¬ Spells words.now Check → ReadsAtMost (S.left source.old) (S.left source.new) }
+    ensures taken { ReadsAtMost MOST_TRACE_BYTES (S.left source.old) (S.left source.new) }
+    ensures taken_by_run { ¬ Spells words.now Check → ReadsAtMost MOST_BYTES (S.left source.old) (S.left source.new) }
     ensures unread { ((rules : Rules) → ¬ Spells words.now (Run rules)) → ¬ Spells words.now Check → source.new ≡ source.old }
     ensures source_never_falls { S.fault_count source.old ≤ S.fault_count source.new }
     ensures sink_never_falls { K.fault_count sink.old ≤ K.fault_count sink.new }

@@ -1,13 +1,14 @@
 ghost use Rattle.std.specs.Prelude.{◌≤◌, List};
+ghost use Rattle.tm_trace_texts.specs.declared.limits.TheConstants.{MOST_TRACE_BYTES};
 ghost use Rattle.tm_watch.specs.Watchers.{Watch};
 ghost use Rattle.tm_mentor.specs.Answers.{HaveWatched};
-ghost use Rattle.tm_mentor.specs.CheckCommand.{CheckAnswers, JudgeAnswers, ReadsTraceAtMost};
+ghost use Rattle.tm_mentor.specs.CheckCommand.{CheckAnswers, JudgeAnswers};
 ghost use Rattle.tm_mentor.specs.Outside.{input_of, output_of};
+ghost use Rattle.tm_mentor.specs.Sources.{ReadsAtMost};
 
 use crate::answers::Answer;
-use crate::readings::ReadError;
+use crate::readings::{ReadError, read_recorded};
 use crate::refusals::{refuse, send_lines};
-use crate::trace_readings::read_recorded;
 use std::alloc::Global;
 use tm_base::NoMemory;
 use tm_legal_rows::write_legal;
@@ -19,13 +20,13 @@ use tm_trace::{JudgeFault, Trace, judge};
 /// the one by rising stamp and then thread number, and `legal` with their number; else three lines that say why.
 pub(crate) fn check<S: Source, K: Sink>(alloc: Global, source: &mut S, sink: &mut K) -> Answer
     ensures answers { CheckAnswers (record {
-      unread = input_of S.left S.fault_count source.old;
-      read = input_of S.left S.fault_count source.new;
-      unsent = output_of K.written K.fault_count sink.old;
-      sent = output_of K.written K.fault_count sink.new;
+      source_before = input_of S.left S.fault_count source.old;
+      source_after = input_of S.left S.fault_count source.new;
+      sink_before = output_of K.written K.fault_count sink.old;
+      sink_after = output_of K.written K.fault_count sink.new;
     }) result }
     ensures untold { (ws : List Watch) → HaveWatched ws result ws }
-    ensures taken { ReadsTraceAtMost (S.left source.old) (S.left source.new) }
+    ensures taken { ReadsAtMost MOST_TRACE_BYTES (S.left source.old) (S.left source.new) }
     ensures source_never_falls { S.fault_count source.old ≤ S.fault_count source.new }
     ensures sink_never_falls { K.fault_count sink.old ≤ K.fault_count sink.new }
 {

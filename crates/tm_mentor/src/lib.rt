@@ -12,10 +12,9 @@ mod readings;
 mod refusals;
 mod run_command;
 mod top_calls;
-mod trace_readings;
 
 pub use answers::Answer;
-pub use outcomes::Outcome;
+pub use outcomes::{Outcome, statuses_name_answers};
 pub use processes::{command_words, exit_code, run_process};
 pub use refusals::Refusal;
 pub use top_calls::mentor_alone;

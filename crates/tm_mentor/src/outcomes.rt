@@ -1,5 +1,5 @@
 ghost use Rattle.std.specs.Prelude.{◌≡◌};
-ghost use Rattle.tm_mentor.specs.Answers.{end_status, outcome_of, unless_failed};
+ghost use Rattle.tm_mentor.specs.Answers.{StatusesNameAnswers, end_status, outcome_of, unless_failed};
 
 use crate::answers::Answer;
 use crate::refusals::refusal_status;
@@ -68,3 +68,9 @@ fn unless_failed(write_fault: bool, status: u8) -> u8
 {
     if write_fault { 5 } else { status }
 }
+
+/// A status from 2 to 4, 8 or 9 names its answer: a refusal whose line was written, a trace that isn't legal, whose
+/// lines were, or that memory ran out.
+pub fn statuses_name_answers()
+    ensures { StatusesNameAnswers }
+{}

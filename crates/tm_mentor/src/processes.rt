@@ -27,10 +27,10 @@ pub fn run_process<S: Source, K: Sink>(
     watchers: &mut Vec<Box<dyn Watcher>>,
 ) -> ExitCode
     ensures { EndsProcess (words_of arguments) (record {
-      unread = input_of S.left S.fault_count source.old;
-      read = input_of S.left S.fault_count source.new;
-      unsent = output_of K.written K.fault_count sink.old;
-      sent = output_of K.written K.fault_count sink.new;
+      source_before = input_of S.left S.fault_count source.old;
+      source_after = input_of S.left S.fault_count source.new;
+      sink_before = output_of K.written K.fault_count sink.old;
+      sink_after = output_of K.written K.fault_count sink.new;
     })
         (exit_status result) }
 {

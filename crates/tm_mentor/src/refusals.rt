@@ -38,16 +38,26 @@ pub(crate) fn send_line<K: Sink>(
 {
     match refusal {
         Refusal::Usage => Ok(fails(sink, b"mentor: usage\n")),
-        Refusal::Text(fault) => {
-            let line = fault_line(alloc, fault)?;
-            Ok(fails(sink, line.as_slice()))
-        }
-        Refusal::NoTrace { line } => {
-            let line = no_trace_line(alloc, line)?;
-            Ok(fails(sink, line.as_slice()))
-        }
+        Refusal::Text(fault) => send_fault(alloc, fault.line, fault.kind.word(), sink),
+        Refusal::NoTrace { line } => send_fault(alloc, line, b"trace", sink),
         Refusal::ReadFault => Ok(fails(sink, b"mentor: read fault\n")),
     }
+}
+
+/// Sends the line that says what is wrong with a text, and answers whether that failed.
+fn send_fault<K: Sink>(
+    alloc: Global,
+    line: u64,
+    word: &[u8],
+    sink: &mut K,
+) -> Result<bool, NoMemory>
+    ensures sent { IfOk result (λ failed. Sends failed (output_of K.written K.fault_count sink.old)
+        (output_of K.written K.fault_count sink.new) (fault_line line word.now)) }
+    ensures kept { IsErr result → sink.new ≡ sink.old }
+    ensures never_falls { K.fault_count sink.old ≤ K.fault_count sink.new }
+{
+    let written = fault_line(alloc, line, word)?;
+    Ok(fails(sink, written.as_slice()))
 }
 
 /// Sends the line that says why nothing was done.
@@ -105,27 +115,16 @@ fn line_len(text: &[u8]) -> usize
     }
 }
 
-/// The line of a text's first fault.
-fn fault_line(alloc: Global, fault: FaultyLine) -> Result<Vec<u8>, NoMemory>
-    ensures { IfOk result (λ line. line.items ≡ fault_line fault) }
-{
-    let mut line = Vec::from_slice(alloc, b"mentor: line ")?;
-    let number = fault.line.to_string(alloc)?;
-    line.extend_from_slice(number.as_bytes())?;
-    line.extend_from_slice(b": ")?;
-    line.extend_from_slice(fault.kind.word())?;
-    line.push(b'\n')?;
-    Ok(line)
-}
-
-/// The line of a text without a line `trace`.
-fn no_trace_line(alloc: Global, line: u64) -> Result<Vec<u8>, NoMemory>
-    ensures { IfOk result (λ written. written.items ≡ line_of (Refusal.NoTrace line)) }
+/// The line that says what is wrong with a text: the number of one of its lines, and the word of its fault.
+fn fault_line(alloc: Global, line: u64, word: &[u8]) -> Result<Vec<u8>, NoMemory>
+    ensures { IfOk result (λ written. written.items ≡ fault_line line word.now) }
 {
     let mut written = Vec::from_slice(alloc, b"mentor: line ")?;
     let number = line.to_string(alloc)?;
     written.extend_from_slice(number.as_bytes())?;
-    written.extend_from_slice(b": trace\n")?;
+    written.extend_from_slice(b": ")?;
+    written.extend_from_slice(word)?;
+    written.push(b'\n')?;
     Ok(written)
 }
 

@@ -1,7 +1,9 @@
 ghost use Rattle.std.specs.Prelude.{◌≤◌, map};
+ghost use Rattle.tm_lines.specs.declared.limits.TheConstants.{MOST_BYTES};
 ghost use Rattle.tm_mentor.specs.Answers.{HaveWatched};
 ghost use Rattle.tm_mentor.specs.Outside.{input_of, output_of};
-ghost use Rattle.tm_mentor.specs.RunCommand.{ReadsAtMost, RunAnswers};
+ghost use Rattle.tm_mentor.specs.RunCommand.{RunAnswers};
+ghost use Rattle.tm_mentor.specs.Sources.{ReadsAtMost};
 
 use crate::answers::Answer;
 use crate::readings::{ReadError, read_exercise};
@@ -23,13 +25,13 @@ pub(crate) fn run<S: Source, K: Sink>(
 ) -> Answer
     requires limit { rules.limit ≤ MOST_CALLS }
     ensures answers { RunAnswers rules (record {
-      unread = input_of S.left S.fault_count source.old;
-      read = input_of S.left S.fault_count source.new;
-      unsent = output_of K.written K.fault_count sink.old;
-      sent = output_of K.written K.fault_count sink.new;
+      source_before = input_of S.left S.fault_count source.old;
+      source_after = input_of S.left S.fault_count source.new;
+      sink_before = output_of K.written K.fault_count sink.old;
+      sink_after = output_of K.written K.fault_count sink.new;
     }) result }
     ensures watched { HaveWatched (map (λ b. watch b) watchers.old.items) result (map (λ b. watch b) watchers.new.items) }
-    ensures taken { ReadsAtMost (S.left source.old) (S.left source.new) }
+    ensures taken { ReadsAtMost MOST_BYTES (S.left source.old) (S.left source.new) }
     ensures source_never_falls { S.fault_count source.old ≤ S.fault_count source.new }
     ensures sink_never_falls { K.fault_count sink.old ≤ K.fault_count sink.new }
 {

@@ -4,23 +4,23 @@ ghost use Rattle.tm_base.specs.declared.events.Entry.{Entry};
 ghost use Rattle.tm_base.specs.declared.rules.Rules.{Rules};
 ghost use Rattle.tm_base.specs.Counters.{next_count};
 ghost use Rattle.tm_outside.specs.Faults.{Rose};
+ghost use Rattle.tm_lines.specs.declared.limits.TheConstants.{MOST_BYTES};
 ghost use Rattle.tm_makers.specs.declared.plans.Plan.{Plan};
 ghost use Rattle.tm_text.specs.Exercises.{ExerciseView};
 ghost use Rattle.tm_text.specs.Texts.{IsExercise};
 ghost use Rattle.tm_order.specs.LegalEvents.{AreLegal};
+ghost use Rattle.tm_trace_texts.specs.declared.limits.TheConstants.{MOST_TRACE_BYTES};
 ghost use Rattle.tm_trace_texts.specs.TraceTexts.{IsTraceText};
 ghost use Rattle.tm_watch.specs.Watchers.{told_all};
 ghost use Rattle.tm_words.specs.declared.commands.Command.TheVariants.{Check, Large, Make, Run};
 ghost use Rattle.tm_words.specs.Commands.{Spells, SpellsNothing};
 ghost use Rattle.tm_mentor.specs.declared.answers.Answer.{Answer};
-ghost use Rattle.tm_mentor.specs.declared.answers.Answer.TheVariants.{Illegal, NoMemory, Refused};
-ghost use Rattle.tm_mentor.specs.declared.refusals.Refusal.{Refusal};
 ghost use Rattle.tm_mentor.specs.Answers.{IsWritten, end_status, outcome_of, run_status, statuses};
-ghost use Rattle.tm_mentor.specs.CheckCommand.{IsNoTrace, ReadsTraceAtMost};
+ghost use Rattle.tm_mentor.specs.CheckCommand.{IsNoTrace};
 ghost use Rattle.tm_mentor.specs.Commands.{Answers};
 ghost use Rattle.tm_mentor.specs.Outside.{input_of, output_of};
-ghost use Rattle.tm_mentor.specs.Refusals.{status_of};
-ghost use Rattle.tm_mentor.specs.RunCommand.{IsNoExercise, ReadsAtMost};
+ghost use Rattle.tm_mentor.specs.RunCommand.{IsNoExercise};
+ghost use Rattle.tm_mentor.specs.Sources.{ReadsAtMost};
 
 use crate::answers::carry_out;
 use crate::outcomes::Outcome;
@@ -50,12 +50,13 @@ pub fn mentor_alone<S: Source, K: Sink>(
     sink: &mut K,
     watchers: &mut Vec<Box<dyn Watcher>>,
 ) -> Outcome
-    // All that happened, by the command that the words spell.
+    // All that happened, by the command that the words spell. A status from 2 to 4, 8 or 9 names the answer, as
+    // `statuses_name_answers` says.
     ensures answered { (answer : Answer) × Answers words.now (record {
-      unread = input_of S.left S.fault_count source.old;
-      read = input_of S.left S.fault_count source.new;
-      unsent = output_of K.written K.fault_count sink.old;
-      sent = output_of K.written K.fault_count sink.new;
+      source_before = input_of S.left S.fault_count source.old;
+      source_after = input_of S.left S.fault_count source.new;
+      sink_before = output_of K.written K.fault_count sink.old;
+      sink_after = output_of K.written K.fault_count sink.new;
     }) answer
         × (result ≡ outcome_of answer) }
 
@@ -78,8 +79,8 @@ pub fn mentor_alone<S: Source, K: Sink>(
     ensures unread { ((rules : Rules) → ¬ Spells words.now (Run rules)) → ¬ Spells words.now Check → source.new ≡ source.old }
 
     // In every answer no more is read than tells that a text is too long.
-    ensures taken { ReadsTraceAtMost (S.left source.old) (S.left source.new) }
-    ensures taken_by_run { ¬ Spells words.now Check → ReadsAtMost (S.left source.old) (S.left source.new) }
+    ensures taken { ReadsAtMost MOST_TRACE_BYTES (S.left source.old) (S.left source.new) }
+    ensures taken_by_run { ¬ Spells words.now Check → ReadsAtMost MOST_BYTES (S.left source.old) (S.left source.new) }
 
     // All that the source had left, where it tells that, is the text of no exercise, or of no trace.
     ensures text { result.status ≡ 3
@@ -98,26 +99,6 @@ pub fn mentor_alone<S: Source, K: Sink>(
         → Contains (4 ∷ 5 ∷ []) result.status }
     ensures write_faults_show { K.fault_count sink.old < K.fault_count sink.new
         → Contains (5 ∷ 9 ∷ []) result.status }
-
-    // A status 2, 3 or 4 is that of a refusal, whose line was written.
-    ensures line { 2 ≤ result.status → result.status ≤ 4 → (refusal : Refusal)
-        × (result.status ≡ status_of refusal)
-        × Answers words.now (record {
-          unread = input_of S.left S.fault_count source.old;
-          read = input_of S.left S.fault_count source.new;
-          unsent = output_of K.written K.fault_count sink.old;
-          sent = output_of K.written K.fault_count sink.new;
-        })
-        (Refused refusal false) }
-
-    // The status 8 is that of a trace no order of whose events is a legal run, and the lines that say so were written.
-    ensures illegal { result.status ≡ 8 → Answers words.now (record {
-      unread = input_of S.left S.fault_count source.old;
-      read = input_of S.left S.fault_count source.new;
-      unsent = output_of K.written K.fault_count sink.old;
-      sent = output_of K.written K.fault_count sink.new;
-    })
-        (Illegal false) }
 
     // Without a fault an exercise runs, a ready-made one is written, a large one runs, and a trace is judged: 0 comes
     // where some order of its events is a legal run, and 8 where none is.
@@ -143,15 +124,6 @@ pub fn mentor_alone<S: Source, K: Sink>(
         → ¬ Rose (S.fault_count source.old) (S.fault_count source.new)
         → ¬ Rose (K.fault_count sink.old) (K.fault_count sink.new)
         → Contains (8 ∷ 9 ∷ []) result.status }
-
-    // Memory ran out: nothing was written, or of `run` and `check` a prefix of the text of the exercise's alone run, and not all.
-    ensures no_memory { result.status ≡ 9 → Answers words.now (record {
-      unread = input_of S.left S.fault_count source.old;
-      read = input_of S.left S.fault_count source.new;
-      unsent = output_of K.written K.fault_count sink.old;
-      sent = output_of K.written K.fault_count sink.new;
-    })
-        NoMemory }
 
     ensures source_never_falls { S.fault_count source.old ≤ S.fault_count source.new }
     ensures sink_never_falls { K.fault_count sink.old ≤ K.fault_count sink.new }

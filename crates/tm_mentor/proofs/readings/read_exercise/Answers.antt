@@ -1,20 +1,22 @@
-use Rattle.std.proofs.Common.{◌∙◌, ℕ, ◌+◌, List, lit<, ap, sym, subst, rules}
+use Rattle.std.proofs.Common.{◌∙◌, ℕ, List, ap, sym, subst, rules}
 use Rattle.tm_lines.specs.declared.limits.TheConstants.{MOST_BYTES}
 use Rattle.tm_lines.specs.TextFaults.{first_fault}
 use Rattle.tm_text.specs.Texts.{IsExercise}
 use Rattle.tm_text.proofs.WellFormedTexts.{exercises_are_well_formed}
-use Rattle.tm_mentor.proofs.Judged.{exercise_of_all, fault_of_all, not_too_long, refuses-line}
+use Rattle.tm_mentor.proofs.Judged.{exercise_is_short, fault_spreads, holds_of_all, not_too_long, refuses-line}
 use Rattle.tm_mentor.proofs.readings.read_exercise.Goals as goal
 
-pub returns-in-Ok-read-clause-found : goal.returns-in-Ok-read-clause-found
-returns-in-Ok-read-clause-found g c =
-    let P : List ℕ → Type 0 = λ bytes. IsExercise bytes c.in-Ok-read.exercise in
-    let text : IsExercise c.in-Ok.bytes c.in-Ok-read.exercise = subst P c.as_slice.ensures c.in-Ok-read.ensures.read in
+pub returns-in-Ok-clause-found : goal.returns-in-Ok-clause-found
+returns-in-Ok-clause-found g c =
+    let P : List ℕ → Type 0 = λ bytes. IsExercise bytes c.in-Ok.exercise in
+    let text : IsExercise c.in_ok-bytes.bytes c.in-Ok.exercise = subst P c.as_slice.ensures c.in-Ok.ensures.read in
     record {
-      end = c.in-Ok.ensures.end (not_too_long c.in-Ok.bytes text.faultless);
-      steady = search rules;
-      formed = exercises_are_well_formed c.in-Ok.bytes c.in-Ok-read.exercise text;
-      told = exercise_of_all (MOST_BYTES + 1) _ (g.S.Source.left c.read_all.new.source) c.in-Ok.bytes _ (lit< tt) c.in-Ok.ensures.first text;
+      read = record {
+        end = c.in_ok-bytes.ensures.end (not_too_long c.in_ok-bytes.bytes text.faultless);
+        steady = search rules;
+        told = holds_of_all MOST_BYTES P _ (g.S.Source.left c.read_all.new.source) c.in_ok-bytes.bytes (exercise_is_short c.in-Ok.exercise) c.in_ok-bytes.ensures.first text;
+      };
+      formed = exercises_are_well_formed c.in_ok-bytes.bytes c.in-Ok.exercise text;
     }
 
 pub returns-in-Err-Line-clause-found : goal.returns-in-Err-Line-clause-found
@@ -23,5 +25,5 @@ returns-in-Err-Line-clause-found g c =
     record {
       taken = search rules;
       steady = search rules;
-      first = fault_of_all (MOST_BYTES + 1) _ (g.S.Source.left c.read_all.new.source) c.in-Ok.bytes _ (lit< tt) c.in-Ok.ensures.first (ap first_fault (sym c.as_slice.ensures) ∙ first);
+      first = holds_of_all MOST_BYTES _ _ (g.S.Source.left c.read_all.new.source) c.in_ok-bytes.bytes (fault_spreads _) c.in_ok-bytes.ensures.first (ap first_fault (sym c.as_slice.ensures) ∙ first);
     }
