@@ -1,10 +1,13 @@
 -- The lines and words that the code cuts off the start.
-use Rattle.std.proofs.Common.{◌≡◌, ℕ, zero, suc, ◌+◌, ◌<◌, ◌≢◌, Bool, true, false, cond, not, ◌==◌, List, [], ◌∷◌, ◌++◌, length, take, drop, refl, sym, ap, ◌∙◌, arith}
-use Rattle.std.specs.List.{prefix_len, position_or_len}
-use Rattle.std.proofs.lemmas.Bool.{cond_both, cond-true, cond-false}
+use Rattle.std.proofs.Common.{◌≡◌, ℕ, zero, suc, ◌+◌, ◌<◌, ◌≤◌, ◌≢◌, Bool, true, false, cond, not, ◌&&◌, ◌==◌, eqb, List, [], ◌∷◌, ◌++◌, length, take, drop, Option, None, Some, refl, sym, ap, ◌∙◌, arith}
+use Rattle.std.specs.List.{list_all, prefix_len, position_or_len}
+use Rattle.std.specs.Option.{unwrap_or}
+use Rattle.std.proofs.lemmas.Bool.{cond_both, cond-true, cond-false, false_from_ne_true}
 use Rattle.std.proofs.lemmas.Bool.Decides.{Decides-eqb}
-use Rattle.tm_lines.specs.Lines.{put_first, lines_of, without_cr, is_blank, words_of}
-use Rattle.tm_lines.specs.Lines.{is_lf}
+use Rattle.std.proofs.lemmas.List.Folds.{list_all-append, prefix_len-append}
+use Rattle.std.proofs.lemmas.List.Sums.{position_or_len_is, prefix_len-le-length}
+use Rattle.memchr.specs.Find.{IsFirstByte, is_byte}
+use Rattle.tm_lines.specs.Lines.{is_blank, is_lf, is_printed, lines_of, put_first, without_cr, words_of}
 
 -- the first element fails the test
 pub stops : (t : Bool) (m : ℕ) → cond t (1 + m) 0 ≡ 0 → t ≡ false
@@ -92,3 +95,36 @@ without_cr-none [] h = refl
 without_cr-none (b ∷ []) h =
     cond_both (b == 13) [] (b ∷ []) (λ l. l ≡ b ∷ []) (λ e. absurd (h [] (ap (λ k. k ∷ []) ((Decides-eqb b 13).0 e)))) (λ e. refl)
 without_cr-none (b ∷ c ∷ line) h = ap (λ l. b ∷ l) (without_cr-none (c ∷ line) (λ prefix e. h (b ∷ prefix) (ap (λ l. b ∷ l) e)))
+
+-- the first LF is where the search found it, or nowhere
+pub line-end : (bytes : List ℕ) (found : Option ℕ) → IsFirstByte (is_byte 10) bytes found → unwrap_or found (length bytes) ≡ position_or_len is_lf bytes
+line-end bytes None h =
+    sym (position_or_len_is is_lf bytes (length bytes) 0 (omega arith) (λ k below. false_from_ne_true _ (h k (omega arith) below)) (λ below. absurd (omega arith)))
+line-end bytes (Some k) h =
+    let first = h.0 in
+    sym (position_or_len_is is_lf bytes k 0 (omega (arith, first.high)) (λ j below. false_from_ne_true _ (first.before j (omega arith) below)) (λ below. h.1))
+
+-- the first LF is in front
+pub end-in_front : (bytes front back : List ℕ) (n : ℕ) → bytes ≡ front ++ back → n ≡ position_or_len is_lf front → n < length front → n ≡ position_or_len is_lf bytes
+end-in_front bytes front back n parts e below =
+    let p : ℕ → Bool = λ b. not (is_lf b) in
+    let other : eqb (prefix_len p front) (length front) ≡ false = false_from_ne_true _ (λ same. let whole : prefix_len p front ≡ length front = (Decides-eqb (prefix_len p front) (length front)).0 same in omega (arith, whole, e, below)) in
+    e ∙ sym (cond-false (eqb (prefix_len p front) (length front)) (length front + prefix_len p back) (prefix_len p front) other) ∙ sym (prefix_len-append p front back) ∙ ap (position_or_len is_lf) (sym parts)
+
+-- it isn't
+pub end-behind : (bytes front back : List ℕ) (n m : ℕ) → bytes ≡ front ++ back → n ≡ position_or_len is_lf front → length front ≤ n → m ≡ position_or_len is_lf back → n + m ≡ position_or_len is_lf bytes
+end-behind bytes front back n m parts e whole f =
+    let p : ℕ → Bool = λ b. not (is_lf b) in
+    let most = prefix_len-le-length p front in
+    let len : prefix_len p front ≡ length front = omega (arith, most, whole, e) in
+    let same = (Decides-eqb (prefix_len p front) (length front)).1 len in
+    let sum : n + m ≡ length front + prefix_len p back = omega (arith, e, f, len) in
+    sum ∙ sym (cond-true (eqb (prefix_len p front) (length front)) (length front + prefix_len p back) (prefix_len p front) same) ∙ sym (prefix_len-append p front back) ∙ ap (position_or_len is_lf) (sym parts)
+
+and_true : (b : Bool) → (b && true) ≡ b
+and_true true = refl
+and_true false = refl
+
+-- one byte more
+pub printed-push : (line : List ℕ) (b : ℕ) → list_all is_printed (line ++ b ∷ []) ≡ (list_all is_printed line && is_printed b)
+printed-push line b = list_all-append is_printed line (b ∷ []) ∙ ap (λ t. list_all is_printed line && t) (and_true (is_printed b))

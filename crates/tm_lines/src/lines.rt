@@ -2,6 +2,11 @@ ghost use Rattle.std.specs.Prelude.{◌≡◌, ◌<◌, ◌∷◌, [], length, M
 ghost use Rattle.std.specs.List.{list_all, position_or_len, prefix_len};
 ghost use Rattle.tm_lines.specs.Lines.{is_blank, is_ignored, is_lf, is_printed, lines_of, without_cr, words_of};
 
+use memchr::memchr;
+
+/// How many bytes of a line are looked at one by one, before several are at once.
+const SHORT_LINE: usize = 8;
+
 /// The first line of the bytes, without its LF, and the bytes after it.
 pub fn first_line(bytes: &[u8]) -> (&[u8], &[u8])
     requires { 0 < length bytes.now }
@@ -52,15 +57,46 @@ pub fn is_ignored(line: &[u8]) -> bool
 pub fn is_printed(line: &[u8]) -> bool
     ensures { result ≡ list_all is_printed line.now }
 {
-    line.iter()
-        .all(|b| *b == b'\t' || (b' ' <= *b && *b <= b'~'))
+    // No byte has a branch, so that many are tested at once.
+    line.iter().fold(true, |all, b| all & is_printed_byte(*b))
 }
 
-/// How many bytes stand before the first LF.
+/// Whether the byte is a tab or prints.
+fn is_printed_byte(byte: u8) -> bool
+    ensures { result ≡ is_printed byte }
+{
+    (byte == b'\t') | ((b' ' <= byte) & (byte <= b'~'))
+}
+
+/// How many bytes stand before the first LF. A search by vectors begins slowly, and most lines of an exercise are short:
+/// so it begins only behind the first bytes.
 fn line_len(bytes: &[u8]) -> usize
     ensures { result ≡ position_or_len is_lf bytes.now }
 {
+    if bytes.len() <= SHORT_LINE {
+        return near_line_len(bytes);
+    }
+    let (front, back) = bytes.split_at(SHORT_LINE);
+    let near = near_line_len(front);
+    if near < front.len() {
+        near
+    } else {
+        near + far_line_len(back)
+    }
+}
+
+/// The same, byte by byte.
+fn near_line_len(bytes: &[u8]) -> usize
+    ensures { result ≡ position_or_len is_lf bytes.now }
+{
     bytes.iter().take_while(|b| **b != b'\n').count()
+}
+
+/// The same, by a search that takes several bytes at once.
+fn far_line_len(bytes: &[u8]) -> usize
+    ensures { result ≡ position_or_len is_lf bytes.now }
+{
+    memchr(b'\n', bytes).unwrap_or(bytes.len())
 }
 
 /// How many blanks the line begins with.
