@@ -1,4 +1,4 @@
-ghost use Rattle.std.specs.Prelude.{◌≡◌};
+ghost use Rattle.std.specs.Prelude.{◌≡◌, true};
 ghost use Rattle.std.specs.List.{list_all};
 ghost use Rattle.tm_lines.specs.Lines.{words_of};
 ghost use Rattle.tm_event_lines.specs.EventFaults.{are_bars, closes_bars, is_bar_letter, is_bars};
@@ -7,6 +7,24 @@ use tm_lines::first_word;
 
 /// Whether the words of these bytes are none, or one word of bars.
 pub fn are_bars(bytes: &[u8]) -> bool
+    ensures { result ≡ are_bars (words_of bytes.now) }
+{
+    are_spaced_bars(bytes) || are_any_bars(bytes)
+}
+
+/// Whether the bytes are a space and a word of bars, as behind nearly all events. The word ends where the bytes do, so
+/// that its end isn't looked for.
+fn are_spaced_bars(bytes: &[u8]) -> bool
+    ensures { result ≡ true → are_bars (words_of bytes.now) ≡ true }
+{
+    match bytes {
+        [b' ', word @ ..] => is_bars(word),
+        _ => false,
+    }
+}
+
+/// The same as `are_bars`, of bytes of whatever form.
+fn are_any_bars(bytes: &[u8]) -> bool
     ensures { result ≡ are_bars (words_of bytes.now) }
 {
     match first_word(bytes) {
@@ -39,12 +57,13 @@ fn closes_bars(bytes: &[u8]) -> bool
 fn are_bar_letters(bytes: &[u8]) -> bool
     ensures { result ≡ list_all is_bar_letter bytes.now }
 {
-    bytes.iter().all(|b| is_bar_letter(*b))
+    // No byte has a branch, so that many are tested at once.
+    bytes.iter().fold(true, |all, b| all & is_bar_letter(*b))
 }
 
 /// Whether the byte is the letter of a bar.
 fn is_bar_letter(byte: u8) -> bool
     ensures { result ≡ is_bar_letter byte }
 {
-    matches!(byte, b'-' | b'R' | b'B' | b'G' | b'E')
+    (byte == b'-') | (byte == b'R') | (byte == b'B') | (byte == b'G') | (byte == b'E')
 }
