@@ -131,6 +131,51 @@ fn the_lines_of_a_run_in_any_order_are_accepted_by_stamp_and_thread(
     Ok(())
 }
 
+/// The threads that add 1 to a variable in turn, and how often they do so together.
+const ADDERS: u32 = 20;
+
+const ADDITIONS: u64 = 200_000;
+
+/// A variable `x` and these threads, `A` to `T`.
+fn text_of_the_adders(alloc: Global) -> Result<Vec<u8>, NoMemory> {
+    let mut text = Vec::from_slice(alloc, b"var x 0\n")?;
+    for letter in b'A'..=b'T' {
+        text.extend_from_slice(b"thread ")?;
+        text.push(letter)?;
+        text.extend_from_slice(b"\nrepeat 10000\nadd x 1\nend\nend\n")?;
+    }
+    Ok(text)
+}
+
+/// The run in which they do it in turn.
+fn run_of_the_adders(alloc: Global) -> Result<Vec<Entry>, NoMemory> {
+    let mut run = Vec::new(alloc);
+    for thread in 1..=ADDERS {
+        run.push(event((thread, 1), (thread, 1), 1, Op::Begin, Reply::Ok))?;
+    }
+    for k in 0..ADDITIONS {
+        let thread = (k % 20) as u32 + 1;
+        let sum = Reply::Got(k as i64 + 1);
+        run.push(event((thread, k / 20 + 2), (0, k + 1), k + 2, Op::Add(1), sum))?;
+    }
+    for thread in 1..=ADDERS {
+        let stamp = 199_982 + thread as u64;
+        let end = Op::End { cut: false };
+        run.push(event((thread, 10_002), (thread, 2), stamp, end, Reply::Ok))?;
+    }
+    Ok(run)
+}
+
+#[test]
+fn a_long_run_is_accepted_with_its_last_line_first(rt: HostRuntime) -> Result<(), Fail> {
+    let text = text_of_the_adders(rt.alloc())?;
+    let mut back = run_of_the_adders(rt.alloc())?;
+    back.reverse();
+    let lines = trace_of(&rt, rt.alloc(), text.as_slice(), back.as_slice())?;
+    assert_eq!(rt; judge(rt.alloc(), &lines)?.len(), 200_040);
+    Ok(())
+}
+
 #[test]
 fn an_event_left_out_is_the_one_for_which_the_first_held_event_waits(
     rt: HostRuntime,
