@@ -1,7 +1,7 @@
 -- What is found in a list where at most one element passes, and what numbers have to do with it.
-use Rattle.std.proofs.Common.{◌≡◌, ℕ, ◌-◌, ◌≤◌, Bool, true, false, ◌==◌, ◌&&◌, ◌||◌, ◌⊎◌, ⊎_elim, List, ◌∷◌, ◌++◌, find, Option, Some, None, is_some, Contains, refl, sym, ap, ◌∙◌, subst, arith}
+use Rattle.std.proofs.Common.{◌≡◌, ℕ, Bool, true, false, ◌==◌, ◌&&◌, ◌⊎◌, ⊎_elim, List, ◌∷◌, ◌++◌, find, Option, Some, None, is_some, Contains, refl, sym, ap, ◌∙◌, subst}
 use Rattle.std.specs.Prelude.{IsPermutation}
-use Rattle.std.proofs.lemmas.Bool.{eq-eqb, and_from, or_left, or_right}
+use Rattle.std.proofs.lemmas.Bool.{eq-eqb, and_from}
 use Rattle.std.proofs.lemmas.List.{append_assoc}
 use Rattle.std.proofs.lemmas.List.Elements.{Contains-append_cases}
 use Rattle.std.proofs.lemmas.List.Sorted.{Contains-permutation, IsPermutation-sym}
@@ -9,7 +9,6 @@ use Rattle.tm_base.specs.declared.events.Entry.{Entry}
 use Rattle.tm_merge.proofs.ListLemmas.{Contains-first, Contains-parts}
 use Rattle.tm_merge.proofs.OrderLemmas.{find-element}
 use Rattle.tm_merge.proofs.PredecessorsLemmas.{found-some}
-use Rattle.tm_order.specs.Ready.{IsShownBefore}
 use Rattle.tm_order.proofs.Elements.{Contains-middle}
 
 -- an element that passes isn't overlooked
@@ -61,13 +60,3 @@ module _ (key number : Entry → ℕ) where
       absurd (none-passes (is_at (key a) (number a)) cut.0 b (new cut.0 cut.1 a cut.2) before (at-own b (key a) (number a) (sym keys) (sym numbers))))
       (λ (later : Contains (a ∷ cut.1) b). ⊎_elim (λ (same : b ≡ a). sym same) behind (Contains-first a cut.1 b later))
       (Contains-append_cases cut.0 (a ∷ cut.1) b (subst (λ (l : List Entry). Contains l b) cut.2 second))
-
-  -- the number directly before the event's is there, or the event is the first
-  pub is-there : (es : List Entry) (e : Entry) → (number e ≤ 1) ⊎ IsShownBefore key number es e → (number e - 1 == 0 || is_some (find (is_at (key e) (number e - 1)) es)) ≡ true
-  is-there es e before = ⊎_elim
-      (λ (first : number e ≤ 1). let zeroth : number e - 1 ≡ 0 = omega (arith, first) in or_left (number e - 1 == 0) (is_some (find (is_at (key e) (number e - 1)) es)) (eq-eqb (number e - 1) 0 zeroth))
-      (λ (at : IsShownBefore key number es e).
-      let next = at.3 in
-      or_right (number e - 1 == 0) (is_some (find (is_at (key e) (number e - 1)) es))
-      (found-some (is_at (key e) (number e - 1)) es at.0 at.1 (at-own at.0 (key e) (number e - 1) at.2 (omega (arith, next)))))
-      before

@@ -1,6 +1,7 @@
+pub mod SortingLemmas
 pub mod FindingLemmas
 pub mod OfferingLemmas
 pub mod MergingLemmas
 pub mod ReplayingLemmas
-pub mod JudgingLemmas
 pub mod AcceptingLemmas
+pub mod JudgingLemmas

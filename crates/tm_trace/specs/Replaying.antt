@@ -6,8 +6,6 @@ use Rattle.tm_replay.specs.JointStates.{JointState}
 use Rattle.tm_replay.specs.JointSteps.{IsJointRun}
 use Rattle.tm_joint.specs.declared.refusals.Illegal.{Illegal}
 use Rattle.tm_joint.specs.Refusals.{IsIllegal}
-use Rattle.tm_trace.specs.declared.faults.JudgeFault.{JudgeFault}
-use Rattle.tm_trace.specs.declared.faults.JudgeFault.TheVariants as fault
 
 -- The list is a joint run.
 abbrev pub Replays : ExerciseView → List Entry → Type 0
@@ -22,10 +20,3 @@ pub record IsFirstIllegal (x : ExerciseView) (es : List Entry) (i : Illegal) : T
   pub joint : JointState
   pub run : IsJointRun x prefix joint
   pub illegal : IsIllegal x joint entry i
-
--- What can go wrong when they are applied.
-abbrev pub IsReplayFault : ExerciseView → List Entry → JudgeFault → Type 0
-IsReplayFault x es (fault.Refused r) = ⊥
-IsReplayFault x es (fault.Held hold) = ⊥
-IsReplayFault x es (fault.Illegal i) = IsFirstIllegal x es i
-IsReplayFault x es fault.NoMemory = Unit {0}

@@ -1,15 +1,17 @@
-ghost use Rattle.std.specs.Prelude.{◌≡◌, [], IfErr, IfOk, OnOk};
+ghost use Rattle.std.specs.Prelude.{◌≡◌, [], IfErr, IfOk, MatchOption};
 ghost use Rattle.tm_order.specs.Interleavings.{AreInRange};
+ghost use Rattle.tm_order.specs.LegalEvents.{AreLegal};
 ghost use Rattle.tm_trace.specs.Judging.{IsAccepted, IsExact, IsFault};
 ghost use Rattle.tm_trace.specs.Merging.{HoldsNothing, IsMergeFault};
 ghost use Rattle.tm_trace.specs.Offering.{IsOfferFault, IsOffered};
-ghost use Rattle.tm_trace.specs.Replaying.{Replays, IsReplayFault};
+ghost use Rattle.tm_trace.specs.Replaying.{IsFirstIllegal, Replays};
 
 use crate::faults::JudgeFault;
+use crate::sorting::in_stamp_order;
 use crate::traces::Trace;
 use std::alloc::Global;
-use tm_base::Entry;
-use tm_joint::Joint;
+use tm_base::{Entry, NoMemory};
+use tm_joint::{Illegal, Joint};
 use tm_merge::Merger;
 use tm_text::Exercise;
 
@@ -23,9 +25,39 @@ pub fn judge(alloc: Global, trace: &Trace) -> Result<Vec<Entry>, JudgeFault>
     ensures refused { IfErr result (IsFault trace.now.exercise trace.now.entries) }
     ensures exact { IfErr result (IsExact trace.now.exercise trace.now.entries) }
 {
-    let merger = merged(alloc, trace)?;
-    replay(alloc, trace.exercise(), merger.shown())?;
-    Ok(merger.into_shown())
+    match run_by_stamp(alloc, trace)? {
+        Some(order) => Ok(order),
+        None => Err(first_fault(alloc, trace)),
+    }
+}
+
+/// The events of the trace by rising stamp and then thread number, if they are a run in that order. If they
+/// aren't, they are a run in none, and no merger has to be asked.
+fn run_by_stamp(alloc: Global, trace: &Trace) -> Result<Option<Vec<Entry>>, NoMemory>
+    ensures { IfOk result (λ run. MatchOption run (AreLegal trace.now.exercise trace.now.entries → ⊥) (λ order. IsAccepted trace.now.exercise trace.now.entries order.items)) }
+{
+    let order = in_stamp_order(alloc, trace.entries())?;
+    match first_illegal(alloc, trace.exercise(), order.as_slice())? {
+        None => Ok(Some(order)),
+        Some(_) => Ok(None),
+    }
+}
+
+/// What is wrong with the events of the trace, which are no run in any order: what is found first where they
+/// are offered to a merger, shown, and applied.
+fn first_fault(alloc: Global, trace: &Trace) -> JudgeFault
+    requires { AreLegal trace.now.exercise trace.now.entries → ⊥ }
+    ensures { IsFault trace.now.exercise trace.now.entries result }
+{
+    let merger = match merged(alloc, trace) {
+        Ok(merger) => merger,
+        Err(fault) => return fault,
+    };
+    match first_illegal(alloc, trace.exercise(), merger.shown()) {
+        Ok(Some(illegal)) => JudgeFault::Illegal(illegal),
+        Ok(None) => unreachable!(),
+        Err(NoMemory) => JudgeFault::NoMemory,
+    }
 }
 
 /// A merger that shows all events of the trace.
@@ -54,15 +86,21 @@ fn offered(alloc: Global, trace: &Trace) -> Result<Merger, JudgeFault>
     Ok(merger)
 }
 
-/// Applies the events to the exercise's joint state, one after the other from its start on.
-fn replay(alloc: Global, exercise: &Exercise, shown: &[Entry]) -> Result<(), JudgeFault>
-    requires { AreInRange exercise.now shown.now }
-    ensures replays { OnOk result (Replays exercise.now shown.now) }
-    ensures fault { IfErr result (IsReplayFault exercise.now shown.now) }
+/// Applies the events to the exercise's joint state, one after the other from its start on, and gives the first
+/// that can't happen.
+fn first_illegal(
+    alloc: Global,
+    exercise: &Exercise,
+    events: &[Entry],
+) -> Result<Option<Illegal>, NoMemory>
+    requires { AreInRange exercise.now events.now }
+    ensures { IfOk result (λ found. MatchOption found (Replays exercise.now events.now) (IsFirstIllegal exercise.now events.now)) }
 {
     let mut joint = Joint::make(alloc, exercise)?;
-    for entry in shown {
-        joint.apply(entry)?;
+    for entry in events {
+        if let Err(illegal) = joint.apply(entry) {
+            return Ok(Some(illegal));
+        }
     }
-    Ok(())
+    Ok(None)
 }

@@ -5,6 +5,7 @@
 mod faults;
 mod judging;
 mod laws;
+mod sorting;
 #[cfg(test)]
 mod tests;
 mod traces;
