@@ -5,7 +5,7 @@ ghost use Rattle.tm_outside.specs.ReadSteps.{ReadsMore};
 
 use crate::Source;
 use std::alloc::Global;
-use tm_base::Bytes;
+use tm_base::{Bytes, NoMemory};
 
 /// Why a source was not read.
 #[derive(Clone, Copy, Debug, PartialEq, Eq)]
@@ -18,6 +18,10 @@ pub enum ReadFault {
 
 /// How many bytes are asked for in one read, at most.
 const LONGEST_READ: usize = 65536;
+
+/// How many bytes are copied at once, at most. The C library copies so few by vectors, and more of them by one
+/// instruction that goes from byte to byte.
+const LONGEST_COPY: usize = 2048;
 
 /// Reads a source to its end, or to `limit + 1` bytes, for a limit below 2^63: so more than `limit`
 /// bytes say that the source has more than `limit`. `Failed` at the first read that fails:
@@ -76,8 +80,21 @@ fn read_some<S: Source>(
     let Ok(n) = source.read(part) else {
         return Err(ReadFault::Failed);
     };
-    if bytes.extend_from_slice(&part[..n]).is_err() {
-        return Err(ReadFault::NoMemory);
+    match append(bytes, &part[..n]) {
+        Ok(()) => Ok(n),
+        Err(NoMemory) => Err(ReadFault::NoMemory),
     }
-    Ok(n)
+}
+
+/// Appends the bytes, piece by piece.
+fn append(bytes: &mut Vec<u8>, more: &[u8]) -> Result<(), NoMemory>
+    ensures { OnOk result (bytes.new.items ≡ bytes.old.items ++ more.now) }
+{
+    let mut rest = more;
+    while !rest.is_empty() {
+        let (piece, behind) = rest.split_at(rest.len().min(LONGEST_COPY));
+        bytes.extend_from_slice(piece)?;
+        rest = behind;
+    }
+    Ok(())
 }
