@@ -11,7 +11,7 @@
 #
 # Where valgrind is there, a second table counts the instructions of the program for each event of a run or a trace,
 # and for each byte of a text, which come out the same on every machine of one kind. Where python3 is there, the last
-# lines say how much memory the longest run and the longest trace take for each event.
+# lines say how much memory the longest run takes for each event, and its trace, as it is and backwards.
 set -eu
 export LC_ALL=C
 
@@ -188,6 +188,7 @@ if command -v python3 >/dev/null; then
     repeated 'var x 0' 64 10000 'add x 1' >"$room/exercise"
     "$program" run --events 10000 <"$room/exercise" >"$room/rows"
     { cat "$room/exercise" && echo trace && head -n -1 "$room/rows"; } >"$room/trace"
+    { cat "$room/exercise" && echo trace && head -n -1 "$room/rows" | tac; } >"$room/back"
     # Says how much memory a command takes over the file, beyond what is said, for each event.
     memory() {
         python3 - "$program" "$@" <<'END'
@@ -205,4 +206,5 @@ END
     printf '\n'
     memory 'the last run' "$room/exercise" nothing run --events 10000
     memory 'its trace, beside the text' "$room/trace" input check
+    memory 'the same in reversed order' "$room/back" input check
 fi
