@@ -32,7 +32,7 @@ pub fn judge(alloc: Global, trace: &Trace) -> Result<Vec<Entry>, JudgeFault>
 }
 
 /// The events of the trace by rising stamp and then thread number, if they are a run in that order. If they
-/// aren't, they are a run in none, and no merger has to be asked.
+/// aren't, they are a run in no order.
 fn run_by_stamp(alloc: Global, trace: &Trace) -> Result<Option<Vec<Entry>>, NoMemory>
     ensures { IfOk result (λ run. MatchOption run (AreLegal trace.now.exercise trace.now.entries → ⊥) (λ order. IsAccepted trace.now.exercise trace.now.entries order.items)) }
 {
