@@ -1,4 +1,4 @@
--- What is accepted is a run, and what is refused can't be one.
+-- Events in the order of their stamps: a run is accepted, and where it breaks off no order is one.
 use Rattle.std.proofs.Common.{List}
 use Rattle.std.specs.Prelude.{IsPermutation}
 use Rattle.std.proofs.lemmas.List.Sorted.{Contains-permutation, IsPermutation-sym}
@@ -11,10 +11,7 @@ use Rattle.tm_order.specs.LegalEvents.{AreLegal}
 use Rattle.tm_order.specs.StampOrder.{IsInStampOrder}
 use Rattle.tm_order.proofs.LegalEventsLemmas.{broken-illegal}
 use Rattle.tm_order.proofs.StampOrderLemmas.{extension-keeps}
-use Rattle.tm_trace.specs.declared.faults.JudgeFault.{JudgeFault}
-use Rattle.tm_trace.specs.declared.faults.JudgeFault.TheVariants as fault
-use Rattle.tm_trace.specs.Judging.{IsAccepted, IsExact, IsFault}
-use Rattle.tm_trace.specs.Merging.{IsMergeFault}
+use Rattle.tm_trace.specs.Judging.{IsAccepted}
 use Rattle.tm_trace.specs.Replaying.{IsFirstIllegal, Replays}
 use Rattle.tm_trace.specs.Traces.{AreTraceable}
 use Rattle.tm_trace.proofs.AcceptingLemmas.{accepted-by_stamp}
@@ -44,18 +41,3 @@ module _ (x : ExerciseView) (es order : List Entry) (permutation : IsPermutation
           run = first.run;
           illegal = λ k step. Refuses-no_step x first.joint k first.entry i.cause first.illegal.1 step;
         })
-
-module _ (x : ExerciseView) (es : List Entry) where
-  -- a fault of events that are no run in any order is no mistake
-  pub unlegal-exact : (AreLegal x es → ⊥) → (f : JudgeFault) → IsExact x es f
-  unlegal-exact unlegal (fault.Refused r) = unlegal
-  unlegal-exact unlegal (fault.Held hold) = unlegal
-  unlegal-exact unlegal (fault.Illegal i) = unlegal
-  unlegal-exact unlegal fault.NoMemory = tt
-
-  -- what goes wrong until all are shown
-  pub merge-fault : (f : JudgeFault) → IsMergeFault x es f → IsFault x es f
-  merge-fault (fault.Refused r) h = h
-  merge-fault (fault.Held hold) h = h
-  merge-fault (fault.Illegal i) h = absurd h
-  merge-fault fault.NoMemory h = tt

@@ -1,4 +1,4 @@
-pub mod SortingLemmas
+pub mod StampSortLemmas
 pub mod FindingLemmas
 pub mod OfferingLemmas
 pub mod MergingLemmas

@@ -2,7 +2,7 @@ use Rattle.std.proofs.Common.{◌≡◌, ℕ, rules}
 use Rattle.std.proofs.lemmas.List.Sorted.{answers_always}
 use Rattle.tm_base.specs.declared.events.Entry.{Entry}
 use Rattle.tm_merge.proofs.RisingLemmas.{rising_from_sorted}
-use Rattle.tm_trace.proofs.SortingLemmas.{rising-order}
+use Rattle.tm_trace.proofs.StampSortLemmas.{rising-order}
 use Rattle.tm_trace.proofs.sorting.in_stamp_order.Goals as goal
 
 pub returns-clause-by_stamp : goal.returns-clause-by_stamp
